@@ -1,4 +1,5 @@
--- Why nothing was signed, in the words of the message, the order, the holder and the provider (this project's own faults).
+-- Why nothing was signed, in the words of the message, the order, the holder and the provider (this project's own
+-- faults).
 use Rattle.std.specs.Prelude.{◌≡◌, ⊤, ◌⊎◌, ℕ, ◌<◌, true, List, length, Option, Some, None}
 use Rattle.sip_message.specs.Accessors.{calling_number, date, is_invite}
 use Rattle.sip_message.specs.Added.{with_line}
@@ -33,22 +34,26 @@ pub record IsOrdered (bytes : List ℕ) (order : OrderView) (message : MessageVi
 
 -- the message with the field for this signature is longer than a message may be
 abbrev pub IsTooLong : List ℕ → OrderView → ClaimsView → List ℕ → Type 0
-IsTooLong bytes order claims signature = 65535 < length (with_line bytes field_name (value_of order.shape claims signature))
+IsTooLong bytes order claims signature =
+    65535 < length (with_line bytes field_name (value_of order.shape claims signature))
 
--- 1: no message, no INVITE, a Date that isn't that of a compact PASSporT, or a message that the field would make too long
+-- 1: no message, no INVITE, a Date that isn't that of a compact PASSporT, or a message that the field would make too
+-- long
 pub data IsMisformed (bytes : List ℕ) (order : OrderView) : Type 0 where
   no_message : ((message : MessageView) → Head bytes message → ⊥) → IsMisformed bytes order
   no_invite : (message : MessageView) → Head bytes message → (is_invite message ≡ true → ⊥) → IsMisformed bytes order
-  other_date : (message : MessageView) → Head bytes message → is_invite message ≡ true → order.shape ≡ shapes.Compact → (date message ≡ Some order.iat → ⊥)
-      → IsMisformed bytes order
+  other_date : (message : MessageView) → Head bytes message → is_invite message ≡ true → order.shape ≡ shapes.Compact
+      → (date message ≡ Some order.iat → ⊥) → IsMisformed bytes order
   too_long : (message : MessageView) (claims : ClaimsView) → IsOrdered bytes order message claims
-      → ((signature : List ℕ) → IsSignature signature → IsTooLong bytes order claims signature) → IsMisformed bytes order
+      → ((signature : List ℕ) → IsSignature signature → IsTooLong bytes order claims signature)
+      → IsMisformed bytes order
 
 -- 2: no calling number, or no called one
 pub record IsUnnumbered (bytes : List ℕ) (order : OrderView) : Type 0 where
   pub message : MessageView
   pub invite : IsInvite bytes order message
-  pub missing : (◌≡◌ {A = Option (List ℕ)} (calling_number message order.local) None) ⊎ (◌≡◌ {A = Option (List ℕ)} (called_number order message) None)
+  pub missing : (◌≡◌ {A = Option (List ℕ)} (calling_number message order.local) None)
+      ⊎ (◌≡◌ {A = Option (List ℕ)} (called_number order message) None)
 
 -- for each signature the message has room for the field
 abbrev pub HasRoom : List ℕ → OrderView → ClaimsView → Type 0
@@ -76,7 +81,8 @@ MaySpeak None claims = ⊤
 MaySpeak (Some holder) claims = CoversKind holder.table holder.entries claims.orig claims.kind
 
 -- 4: the key signs nothing for this digest, which is that of what is to be signed
-pub record IsUnsigned (bytes : List ℕ) (order : OrderView) (holder : Option HolderView) (signs : List ℕ → List ℕ → Option (List ℕ)) (digest : List ℕ) : Type 0 where
+pub record IsUnsigned (bytes : List ℕ) (order : OrderView) (holder : Option HolderView)
+    (signs : List ℕ → List ℕ → Option (List ℕ)) (digest : List ℕ) : Type 0 where
   pub message : MessageView
   pub claims : ClaimsView
   pub ordered : IsOrdered bytes order message claims

@@ -9,13 +9,14 @@ use Rattle.sip_message.specs.Message.{MessageView}
 use Rattle.verify_rules.specs.Call.{Call, Reading, in_message, mark_of, passports_of, reading, values_of}
 use Rattle.verify_rules.specs.Rules.{HoldAll, early_rules}
 
--- the PASSporTs after the first, which is the originating one, are in this order, and the call goes on from there by the link
+-- the PASSporTs after the first, which is the originating one, are in this order, and the call goes on from there by
+-- the link
 abbrev pub GoOn : List Reading → List ℕ → ClaimsView → Type 0
 GoOn [] turn link = ⊥
 GoOn (origin ∷ others) turn link = GoesOn origin.passport (passports_of others) turn link
 
--- Whoever judges the call numbers as the order does. The call has at most 15 Identity fields, breaks none of rules 1 to 7, and goes on by the
--- link from the number that its own links lead to.
+-- Whoever judges the call numbers as the order does. The call has at most 15 Identity fields, breaks none of rules 1 to
+-- 7, and goes on by the link from the number that its own links lead to.
 pub record IsDivertible (call : Call) (local : LocalView) (link : ClaimsView) : Type 0 where
   pub numbering : call.settings.local ≡ local
   pub few : length (values_of call) ≤ 15

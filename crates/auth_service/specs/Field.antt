@@ -19,7 +19,8 @@ token_by shapes.Compact signing signature = compact_text signature
 
 -- the token, the URI of the certificates, the algorithm ES256, and the PASSporT's type, if it has one
 abbrev pub field_of : Shape → ClaimsView → List ℕ → Parts
-field_of shape claims signature = parts (token_by shape (signing_of claims) signature) claims.x5u (Some (codes "ES256")) (ppt_of claims.kind)
+field_of shape claims signature =
+    parts (token_by shape (signing_of claims) signature) claims.x5u (Some (codes "ES256")) (ppt_of claims.kind)
 
 -- the field's value, as a field is written
 abbrev pub value_of : Shape → ClaimsView → List ℕ → List ℕ

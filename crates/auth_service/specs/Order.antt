@@ -1,4 +1,5 @@
--- What is to be signed, by which key, and for whom (RFC 8224, section 4.1; RFC 8225, sections 5 and 7; RFC 8588, section 4; RFC 8946, section 4).
+-- What is to be signed, by which key, and for whom (RFC 8224, section 4.1; RFC 8225, sections 5 and 7; RFC 8588,
+-- section 4; RFC 8946, section 4).
 use Rattle.std.specs.Prelude.{◌≡◌, ◌↔◌, ℕ, Bool, ◌&&◌, nat_le, List, Option, Some, None}
 use Rattle.std.specs.Borrow.{Bor}
 use Rattle.text_grammar.specs.Moment.{last_second}
@@ -19,8 +20,8 @@ use Rattle.auth_service.specs.declared.wanted.Shape.{Shape}
 use Rattle.auth_service.specs.declared.wanted.Shape.TheVariants as shapes
 use Rattle.auth_service.specs.declared.wanted.Wanted.{Wanted}
 
--- how the PASSporT is written, in full with its type or compact; the name of the key, the URI of its certificates, when it is issued in Unix
--- seconds, and the local numbering
+-- how the PASSporT is written, in full with its type or compact; the name of the key, the URI of its certificates, when
+-- it is issued in Unix seconds, and the local numbering
 pub record OrderView : Type 0 where
   pub shape : Shape
   pub key : List ℕ
@@ -45,7 +46,13 @@ pub record IsInForm (form : Form) (shape : Shape) : Type 0 where
 
 -- of the origin of a call, in the order's form
 abbrev pub order_of : SignOrder → OrderView
-order_of order = record { shape = shape_of order.form; key = order.key.now; x5u = order.x5u.now; iat = order.iat; local = order.local }
+order_of order = record {
+  shape = shape_of order.form;
+  key = order.key.now;
+  x5u = order.x5u.now;
+  iat = order.iat;
+  local = order.local;
+}
 
 abbrev pub shape_of_diversion : List ℕ → Shape
 shape_of_diversion earlier = shapes.Full (kinds.Div earlier)
@@ -62,10 +69,11 @@ divert_order_of order = record {
 
 -- of what either of the two wants
 abbrev pub wanted_of : Wanted → OrderView
-wanted_of order = record { shape = order.shape; key = order.key.now; x5u = order.x5u.now; iat = order.iat; local = order.local }
+wanted_of order =
+    record { shape = order.shape; key = order.key.now; x5u = order.x5u.now; iat = order.iat; local = order.local }
 
--- what can be signed: the URI is one of a certificate, the second is none past the year 9999, and the identifier of the call, if the type has one, is a
--- UUID in 36 characters
+-- what can be signed: the URI is one of a certificate, the second is none past the year 9999, and the identifier of the
+-- call, if the type has one, is a UUID in 36 characters
 abbrev pub is_order : OrderView → Bool
 is_order order = is_uri order.x5u && nat_le order.iat last_second && has_origid (kind_of order.shape)
 

@@ -9,7 +9,8 @@ use Rattle.auth_service.specs.Signed.{signed}
 use Rattle.auth_service.specs.declared.fault.SignFault.{SignFault}
 
 -- the bytes that come out or the first fault, what was signed, and the cause of each fault
-pub record IsPromised {X : Type 0} (seen : X → List ℕ) (bytes : List ℕ) (order : OrderView) (holder : Option HolderView) (signs : List ℕ → List ℕ → Option (List ℕ)) (result : Result X SignFault) : Type 0 where
+pub record IsPromised {X : Type 0} (seen : X → List ℕ) (bytes : List ℕ) (order : OrderView) (holder : Option HolderView)
+    (signs : List ℕ → List ℕ → Option (List ℕ)) (result : Result X SignFault) : Type 0 where
   pub exact : Gives decided seen result (signed bytes order holder signs)
   pub is_signed : IfOk result (λ out. IsSigned bytes order holder signs (seen out))
   pub causes : IfErr result (λ fault. IsCaused bytes order holder signs fault)

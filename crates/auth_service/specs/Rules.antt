@@ -13,8 +13,8 @@ use Rattle.verify_rules.specs.declared.settings.Settings.{Settings}
 use Rattle.auth_service.specs.Order.{OrderView}
 use Rattle.auth_service.specs.Signed.{claims_by}
 
--- The message had no Identity field; who judges it numbers as the order did, and judges it when the PASSporT is not too old, and its iat not
--- too far ahead.
+-- The message had no Identity field; who judges it numbers as the order did, and judges it when the PASSporT is not too
+-- old, and its iat not too far ahead.
 pub record IsFirstHop (message : MessageView) (order : OrderView) (settings : Settings) (moment : ℕ) : Type 0 where
   pub unsigned : identities message ≡ []
   pub numbering : settings.local ≡ order.local
@@ -27,4 +27,5 @@ judged_of order orig dest token = reading (claims_by order orig dest) token.sign
 
 -- the signature is good under the key of the leaf of the chain that is there for the PASSporT
 abbrev pub IsConfirmed : World → Reading → Type 0
-IsConfirmed world one = (judged : JudgedView) → truth_for world one ≡ have judged → is_signed_by world.says one (slice_get judged.certificates 0) ≡ true
+IsConfirmed world one = (judged : JudgedView) → truth_for world one ≡ have judged
+    → is_signed_by world.says one (slice_get judged.certificates 0) ≡ true

@@ -1,6 +1,8 @@
--- What is signed of a message and written into it, or why nothing is: a total function of the message, the order, the holder's authority
--- and what the provider signs (RFC 8224, section 4.1; RFC 8946, section 4.1; the faults and their order are this project's own).
-use Rattle.std.specs.Prelude.{ℕ, ◌==◌, nat_lt, Bool, true, false, not, List, [], ◌∷◌, length, replicate, Option, Some, None, Result, Ok, Err, if◌then◌else◌}
+-- What is signed of a message and written into it, or why nothing is: a total function of the message, the order, the
+-- holder's authority and what the provider signs (RFC 8224, section 4.1; RFC 8946, section 4.1; the faults and their
+-- order are this project's own).
+use Rattle.std.specs.Prelude.{ℕ, ◌==◌, nat_lt, Bool, true, false, not, List, [], ◌∷◌, length, replicate, Option, Some}
+use Rattle.std.specs.Prelude.{None, Result, Ok, Err, if◌then◌else◌}
 use Rattle.lists.specs.Steps.{◌>>=◌}
 use Rattle.tn_values.specs.Local.{LocalView}
 use Rattle.sip_message.specs.Accessors.{calling_number, date, is_invite, target_number, to_number}
@@ -40,7 +42,8 @@ is_dated_as shapes.Compact iat message = is_second iat (date message)
 abbrev pub is_dated : OrderView → MessageView → Bool
 is_dated order message = is_dated_as order.shape order.iat message
 
--- the number that is called: that of the request URI by a diversion (RFC 8946, section 4.1), and else that of To (RFC 8224, section 4.1)
+-- the number that is called: that of the request URI by a diversion (RFC 8946, section 4.1), and else that of To (RFC
+-- 8224, section 4.1)
 abbrev pub called_by_type : Option (List ℕ) → MessageView → LocalView → Option (List ℕ)
 called_by_type None message local = to_number message local
 called_by_type (Some earlier) message local = target_number message local
@@ -55,7 +58,8 @@ called_number order message = called_as (kind_of order.shape) message order.loca
 
 -- from the calling number to the called one
 abbrev pub claims_by : OrderView → List ℕ → List ℕ → ClaimsView
-claims_by order orig dest = record { kind = kind_of order.shape; x5u = order.x5u; iat = order.iat; orig = orig; dest = dest ∷ [] }
+claims_by order orig dest =
+    record { kind = kind_of order.shape; x5u = order.x5u; iat = order.iat; orig = orig; dest = dest ∷ [] }
 
 abbrev pub claims_or_fault : OrderView → Option (List ℕ) → Option (List ℕ) → Result ClaimsView SignFault
 claims_or_fault order (Some orig) (Some dest) = Ok (claims_by order orig dest)
@@ -64,7 +68,8 @@ claims_or_fault order None dest = Err faults.NoNumber
 
 -- if the compact form is dated: the number that calls, and the one that is called
 unfoldable pub claims_of : OrderView → MessageView → Result ClaimsView SignFault
-claims_of order message = if is_dated order message then claims_or_fault order (calling_number message order.local) (called_number order message) else Err faults.Form
+claims_of order message = if is_dated order message
+    then claims_or_fault order (calling_number message order.local) (called_number order message) else Err faults.Form
 
 -- of bytes that are an INVITE
 unfoldable pub claims_in : OrderView → Result MessageView FormFault → Result ClaimsView SignFault
@@ -108,7 +113,8 @@ unfoldable pub claims_for : List ℕ → OrderView → Option HolderView → Res
 claims_for bytes order holder = claims_in order (read bytes) >>= allowed bytes order holder
 
 -- the message with the field, or the first fault
-unfoldable pub signed : List ℕ → OrderView → Option HolderView → (List ℕ → List ℕ → Option (List ℕ)) → Result (List ℕ) SignFault
+unfoldable pub signed : List ℕ → OrderView → Option HolderView → (List ℕ → List ℕ → Option (List ℕ))
+    → Result (List ℕ) SignFault
 signed bytes order holder signs = do
   claims ← claims_for bytes order holder
   signature ← signature_of signs order.key (signing_of claims)

@@ -1,4 +1,5 @@
--- What the steps of the signer hand on: the PASSporT of an order, the line of its field, and the message that has room for it.
+-- What the steps of the signer hand on: the PASSporT of an order, the line of its field, and the message that has room
+-- for it.
 use Rattle.std.specs.Prelude.{◌≡◌, ℕ, ◌+◌, ◌≤◌, List, length, Option, Some, None, Ok, IsTrue}
 use Rattle.identity_header.specs.FieldText.{FieldText}
 use Rattle.identity_header.specs.Parts.{Parts}

@@ -8,8 +8,8 @@ use thiserror::Error;
 /// Why a message was not signed: the first fault in this order.
 #[derive(Clone, Copy, Debug, Error)]
 pub enum SignFault {
-    /// The bytes are no INVITE (RFC 3261, section 7); or, in the compact form, their Date is not the order's second; or both numbers are
-    /// there and the message with its new field would be longer than 65,535 bytes.
+    /// The bytes are no INVITE (RFC 3261, section 7); or, in the compact form, their Date is not the order's second; or
+    /// both numbers are there and the message with its new field would be longer than 65,535 bytes.
     #[error("the message can't be signed")]
     Form,
     /// There is no calling number, or To has none; for a diversion, the request URI.

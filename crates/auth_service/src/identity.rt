@@ -39,8 +39,8 @@ fn type_size(kind: &Kind) -> usize
     }
 }
 
-/// How many bytes the line of the field has, by those of what is signed and of the certificates' URI. With these come the field's name, the 86 bytes of the
-/// signature, and what parts them.
+/// How many bytes the line of the field has, by those of what is signed and of the certificates' URI. With these come
+/// the field's name, the 86 bytes of the signature, and what parts them.
 fn line_size(shape: &Shape, signing: usize, x5u: usize) -> usize
     requires signing { signing ≤ 8192 }
     requires x5u { x5u ≤ 2048 }
@@ -57,7 +57,8 @@ fn line_size(shape: &Shape, signing: usize, x5u: usize) -> usize
 pub(crate) fn is_too_long(bytes: &[u8], order: &Wanted<'_>, signing: &[u8]) -> bool
     requires order { IsTrue (is_order (wanted_of order.now)) }
     requires signing { length signing.now ≤ 8192 }
-    ensures { (claims : ClaimsView) → IsFor (wanted_of order.now) claims → signing.now ≡ signing_of claims → result ≡ is_too_long bytes.now order.now.shape claims }
+    ensures { (claims : ClaimsView) → IsFor (wanted_of order.now) claims → signing.now ≡ signing_of claims
+        → result ≡ is_too_long bytes.now order.now.shape claims }
 {
     token_bytes_law();
     bytes.len() + line_size(&order.shape, signing.len(), order.x5u.len()) > MOST_BYTES
@@ -85,7 +86,8 @@ fn token_text(
     Ok(text)
 }
 
-/// The field with this token, and of the PASSporT the certificates' URI and the type; the algorithm is ES256 (RFC 7518, section 3.4).
+/// The field with this token, and of the PASSporT the certificates' URI and the type; the algorithm is ES256 (RFC 7518,
+/// section 3.4).
 fn field<'a>(token: &'a [u8], passport: &'a Passport) -> Field<'a>
     requires token { Run is_digest_byte 8192 token.now }
     requires x5u { IsTrue (is_uri passport.now.x5u) }
@@ -99,7 +101,8 @@ fn field<'a>(token: &'a [u8], passport: &'a Passport) -> Field<'a>
     }
 }
 
-/// The value of the field of a PASSporT and its signature. Reading it gives the field again, and it can be written in a line of a message.
+/// The value of the field of a PASSporT and its signature. Reading it gives the field again, and it can be written in a
+/// line of a message.
 pub(crate) fn field_value(
     alloc: Global,
     order: &Wanted<'_>,
@@ -112,7 +115,8 @@ pub(crate) fn field_value(
     requires signable { IsSignable one.now.draft.passport }
     ensures exact { IfOk result (λ text. text.items ≡ value_of order.now.shape one.now.draft.passport signature.now) }
     ensures signature { IsSignature signature.now }
-    ensures written { IfOk result (λ text. IsWrittenField text.items (field_of order.now.shape one.now.draft.passport signature.now)) }
+    ensures written { IfOk result
+        (λ text. IsWrittenField text.items (field_of order.now.shape one.now.draft.passport signature.now)) }
 {
     token_bytes_law();
     are_signature(signature);
@@ -138,7 +142,8 @@ pub(crate) fn with_identity(
     ensures exact { Gives decided (λ out. out.items) result (Ok (with_line text.now.bytes field_name value.now)) }
     ensures placed { (message : MessageView) (head : Head text.now.bytes message)
         → IfOk result (λ out. out.items ≡ with_line_at head.empty.place text.now.bytes field_name value.now) }
-    ensures added { (message : MessageView) → Head text.now.bytes message → IfOk result (λ out. Head out.items (with_last message field_name value.now)) }
+    ensures added { (message : MessageView) → Head text.now.bytes message
+        → IfOk result (λ out. Head out.items (with_last message field_name value.now)) }
     ensures apart { names_provider result ≡ false }
 {
     match text.with_field(alloc, b"Identity", value) {

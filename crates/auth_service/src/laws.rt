@@ -12,20 +12,27 @@ ghost use Rattle.auth_service.specs.declared.order.SignOrder.{SignOrder};
 
 use sip_message::{added_field_law, head_law};
 
-/// What [`sign`](crate::sign) writes into a message that had no Identity field breaks none of the rules of the call at a hop that numbers as the
-/// signer did, while the PASSporT is fresh. The one PASSporT that is judged there is that which was signed. If its signature is good under its leaf's
-/// key, rule 16 holds too.
+/// What [`sign`](crate::sign) writes into a message that had no Identity field breaks none of the rules of the call at
+/// a hop that numbers as the signer did, while the PASSporT is fresh. The one PASSporT that is judged there is that
+/// which was signed. If its signature is good under its leaf's key, rule 16 holds too.
 pub fn signed_rules_law()
-    ensures early { (bytes : List ℕ) (order : SignOrder) (holder : Option HolderView) (signs : List ℕ → List ℕ → Option (List ℕ)) (out : List ℕ) (settings : Settings) (moment : ℕ)
-        → (s : IsSigned bytes (order_of order) holder signs out) → IsFirstHop s.message (order_of order) settings moment → HoldAll early_rules (call_of settings moment out) }
-    ensures first { (bytes : List ℕ) (order : SignOrder) (holder : Option HolderView) (signs : List ℕ → List ℕ → Option (List ℕ)) (out : List ℕ) (settings : Settings) (moment : ℕ)
-        → (s : IsSigned bytes (order_of order) holder signs out) → IsFirstHop s.message (order_of order) settings moment → first early_rules (call_of settings moment out) ≡ None }
-    ensures judged { (bytes : List ℕ) (order : SignOrder) (holder : Option HolderView) (signs : List ℕ → List ℕ → Option (List ℕ)) (out : List ℕ) (settings : Settings) (moment : ℕ)
+    ensures early { (bytes : List ℕ) (order : SignOrder) (holder : Option HolderView)
+        (signs : List ℕ → List ℕ → Option (List ℕ)) (out : List ℕ) (settings : Settings) (moment : ℕ)
+        → (s : IsSigned bytes (order_of order) holder signs out) → IsFirstHop s.message (order_of order) settings moment
+        → HoldAll early_rules (call_of settings moment out) }
+    ensures first { (bytes : List ℕ) (order : SignOrder) (holder : Option HolderView)
+        (signs : List ℕ → List ℕ → Option (List ℕ)) (out : List ℕ) (settings : Settings) (moment : ℕ)
+        → (s : IsSigned bytes (order_of order) holder signs out) → IsFirstHop s.message (order_of order) settings moment
+        → first early_rules (call_of settings moment out) ≡ None }
+    ensures judged { (bytes : List ℕ) (order : SignOrder) (holder : Option HolderView)
+        (signs : List ℕ → List ℕ → Option (List ℕ)) (out : List ℕ) (settings : Settings) (moment : ℕ)
         → (s : IsSigned bytes (order_of order) holder signs out) → IsFirstHop s.message (order_of order) settings moment
         → in_call_order (call_of settings moment out) ≡ judged_of (order_of order) s.orig s.dest s.token.token ∷ [] }
-    ensures asking { (bytes : List ℕ) (order : SignOrder) (holder : Option HolderView) (signs : List ℕ → List ℕ → Option (List ℕ)) (out : List ℕ) (settings : Settings) (moment : ℕ) (world : World)
+    ensures asking { (bytes : List ℕ) (order : SignOrder) (holder : Option HolderView)
+        (signs : List ℕ → List ℕ → Option (List ℕ)) (out : List ℕ) (settings : Settings) (moment : ℕ) (world : World)
         → (s : IsSigned bytes (order_of order) holder signs out) → IsFirstHop s.message (order_of order) settings moment
-        → IsConfirmed world (judged_of (order_of order) s.orig s.dest s.token.token) → Holds (asking_rule world) (call_of settings moment out) }
+        → IsConfirmed world (judged_of (order_of order) s.orig s.dest s.token.token)
+        → Holds (asking_rule world) (call_of settings moment out) }
 {
     head_law();
     added_laws();

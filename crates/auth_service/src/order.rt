@@ -38,7 +38,8 @@ pub struct DivertOrder<'a> {
 }
 
 impl<'a> SignOrder<'a> {
-    /// Whether [`sign`](crate::sign) takes the order: its URI, its second and the identifier of the call are of their forms.
+    /// Whether [`sign`](crate::sign) takes the order: its URI, its second and the identifier of the call are of their
+    /// forms.
     pub fn is_valid(&self) -> bool
         ensures { result ≡ is_order (order_of self.now) }
     {
@@ -81,7 +82,8 @@ impl<'a> DivertOrder<'a> {
     }
 }
 
-/// Who signs: the authority list of his certificate (RFC 8226, section 9), and the numbers that the codes in it stand for.
+/// Who signs: the authority list of his certificate (RFC 8226, section 9), and the numbers that the codes in it stand
+/// for.
 #[derive(Clone, Copy, Debug)]
 pub struct Holder<'a> {
     pub list: &'a AuthList,

@@ -8,7 +8,8 @@ ghost use Rattle.auth_service.specs.declared.fault.SignFault.{SignFault};
 ghost use Rattle.auth_service.specs.Answer.{names_provider, decided};
 ghost use Rattle.auth_service.specs.Order.{holder_seen, is_order, wanted_of};
 ghost use Rattle.auth_service.specs.Written.{IsFor};
-ghost use Rattle.auth_service.specs.Signed.{called_number, claims_by, claims_for, claims_in, claims_of, invite_in, is_allowed, is_dated, is_second};
+ghost use Rattle.auth_service.specs.Signed.{called_number, claims_by, claims_for, claims_in, claims_of, invite_in};
+ghost use Rattle.auth_service.specs.Signed.{is_allowed, is_dated, is_second};
 
 use crate::fault::SignFault;
 use crate::identity::is_too_long;
@@ -43,7 +44,8 @@ pub(crate) fn to_sign<'a>(
     holder: Option<&Holder<'_>>,
 ) -> Result<Signable<'a>, SignFault>
     requires { IsTrue (is_order (wanted_of order.now)) }
-    ensures exact { Gives decided (λ one. one.draft.passport) result (claims_for bytes.now (wanted_of order.now) (holder_seen holder.entry)) }
+    ensures exact { Gives decided (λ one. one.draft.passport) result
+        (claims_for bytes.now (wanted_of order.now) (holder_seen holder.entry)) }
     ensures text { IfOk result (λ one. one.draft.text.bytes ≡ bytes.now) }
     ensures signing { IfOk result (λ one. one.signing.items ≡ signing_of one.draft.passport) }
     ensures signable { IfOk result (λ one. IsSignable one.draft.passport) }

@@ -22,12 +22,13 @@ use std::alloc::Global;
 use stir_outside::{Failed, Provider};
 use verify_rules::covers_kind_law;
 
-/// Signs a message (RFC 8224, section 4.1): the bytes with one more Identity header field, in the last line of the head. It holds a
-/// PASSporT from the calling number to the number of To, in the order's form, signed by the order's key. The order is one that
-/// [`is_valid`](SignOrder::is_valid) takes.
+/// Signs a message (RFC 8224, section 4.1): the bytes with one more Identity header field, in the last line of the
+/// head. It holds a PASSporT from the calling number to the number of To, in the order's form, signed by the order's
+/// key. The order is one that [`is_valid`](SignOrder::is_valid) takes.
 ///
-/// The faults are tried in the order of [`SignFault`]. The provider is asked at most once, and only if `Form`, `NoNumber` and `Authority` don't come.
-/// `Provider` comes only if its count of faults rose, and `Memory` only if memory ran out.
+/// The faults are tried in the order of [`SignFault`]. The provider is asked at most once, and only if `Form`,
+/// `NoNumber` and `Authority` don't come. `Provider` comes only if its count of faults rose, and `Memory` only if
+/// memory ran out.
 #[tactic(auto, using(crate::proofs::OrderLaws::valid_as, crate::proofs::OrderLaws::in_form))]
 pub fn sign<P: Provider>(
     alloc: Global,
@@ -38,26 +39,30 @@ pub fn sign<P: Provider>(
 ) -> Result<Vec<u8>, SignFault>
     requires { IsTrue (is_order (order_of order.now)) }
 
-    // The bytes that come out, or the first fault of the four that message, order, holder and key decide. What was signed: the message with one more
-    // field, which is read as the PASSporT of the message's numbers and the key's signature. And each of these faults in the words of what shows it.
-    ensures promised { IsPromised (λ out. out.items) bytes.now (order_of order.now) (holder_seen holder.entry) (P.signs provider.old) result }
+    // The bytes that come out, or the first fault of the four that message, order, holder and key decide. What was
+    // signed: the message with one more field, which is read as the PASSporT of the message's numbers and the key's
+    // signature. And each of these faults in the words of what shows it.
+    ensures promised { IsPromised (λ out. out.items) bytes.now (order_of order.now) (holder_seen holder.entry)
+        (P.signs provider.old) result }
 
     // It is of the form's type, and compact exactly if the form is.
     ensures form { IsInForm order.now.form (order_of order.now).shape }
 
-    // The provider is asked at most once, and its failure has its count. If one of the first three faults is there, it isn't asked, and isn't named.
+    // The provider is asked at most once, and its failure has its count. If one of the first three faults is there, it
+    // isn't asked, and isn't named.
     ensures asked { IsAskedOnce P.Provider provider.old provider.new result }
-    ensures withheld { IsWithheld bytes.now (order_of order.now) (holder_seen holder.entry) → IsLeftAlone (P.asks provider.old) (P.asks provider.new) result }
+    ensures withheld { IsWithheld bytes.now (order_of order.now) (holder_seen holder.entry)
+        → IsLeftAlone (P.asks provider.old) (P.asks provider.new) result }
     ensures provider { ProviderStays P.Provider provider.old provider.new }
 {
     let wanted = order.wanted();
     sign_wanted(alloc, bytes, &wanted, holder, provider)
 }
 
-/// Signs a message that goes to another number than before (RFC 8946, section 4.1), as [`sign`] does: the PASSporT is of the type `div`,
-/// from the calling number to that of the request URI, and its diverted number is the order's earlier one. The order is one that
-/// [`is_valid`](DivertOrder::is_valid) takes. The faults are those of [`sign`], with the request URI in place of To; the holder has to
-/// cover the earlier number.
+/// Signs a message that goes to another number than before (RFC 8946, section 4.1), as [`sign`] does: the PASSporT is
+/// of the type `div`, from the calling number to that of the request URI, and its diverted number is the order's
+/// earlier one. The order is one that [`is_valid`](DivertOrder::is_valid) takes. The faults are those of [`sign`], with
+/// the request URI in place of To; the holder has to cover the earlier number.
 #[tactic(auto, using(crate::proofs::OrderLaws::valid_as))]
 pub fn divert<P: Provider>(
     alloc: Global,
@@ -69,9 +74,11 @@ pub fn divert<P: Provider>(
     requires { IsTrue (is_order (divert_order_of order.now)) }
 
     // What is said of `sign`, by what this order wants.
-    ensures promised { IsPromised (λ out. out.items) bytes.now (divert_order_of order.now) (holder_seen holder.entry) (P.signs provider.old) result }
+    ensures promised { IsPromised (λ out. out.items) bytes.now (divert_order_of order.now) (holder_seen holder.entry)
+        (P.signs provider.old) result }
     ensures asked { IsAskedOnce P.Provider provider.old provider.new result }
-    ensures withheld { IsWithheld bytes.now (divert_order_of order.now) (holder_seen holder.entry) → IsLeftAlone (P.asks provider.old) (P.asks provider.new) result }
+    ensures withheld { IsWithheld bytes.now (divert_order_of order.now) (holder_seen holder.entry)
+        → IsLeftAlone (P.asks provider.old) (P.asks provider.new) result }
     ensures provider { ProviderStays P.Provider provider.old provider.new }
 {
     let wanted = order.wanted();
@@ -87,10 +94,12 @@ fn sign_wanted<P: Provider>(
     provider: &mut P,
 ) -> Result<Vec<u8>, SignFault>
     requires { IsTrue (is_order (wanted_of wanted.now)) }
-    ensures promised { IsPromised (λ out. out.items) bytes.now (wanted_of wanted.now) (holder_seen holder.entry) (P.signs provider.old) result }
+    ensures promised { IsPromised (λ out. out.items) bytes.now (wanted_of wanted.now) (holder_seen holder.entry)
+        (P.signs provider.old) result }
     ensures asked { IsAskedOnce P.Provider provider.old provider.new result }
     ensures provider { ProviderStays P.Provider provider.old provider.new }
-    ensures withheld { IsWithheld bytes.now (wanted_of wanted.now) (holder_seen holder.entry) → IsLeftAlone (P.asks provider.old) (P.asks provider.new) result }
+    ensures withheld { IsWithheld bytes.now (wanted_of wanted.now) (holder_seen holder.entry)
+        → IsLeftAlone (P.asks provider.old) (P.asks provider.new) result }
 {
     head_law();
     token_bytes_law();
@@ -108,12 +117,14 @@ fn sign_exactly<P: Provider>(
     provider: &mut P,
 ) -> Result<Vec<u8>, SignFault>
     requires { IsTrue (is_order (wanted_of wanted.now)) }
-    ensures exact { Gives decided (λ out. out.items) result (signed bytes.now (wanted_of wanted.now) (holder_seen holder.entry) (P.signs provider.old)) }
-    ensures signed { IfOk result (λ out. IsSigned bytes.now (wanted_of wanted.now) (holder_seen holder.entry) (P.signs provider.old) out.items) }
+    ensures exact { Gives decided (λ out. out.items) result
+        (signed bytes.now (wanted_of wanted.now) (holder_seen holder.entry) (P.signs provider.old)) }
+    ensures signed { IfOk result
+        (λ out. IsSigned bytes.now (wanted_of wanted.now) (holder_seen holder.entry) (P.signs provider.old) out.items) }
     ensures asked { IsAskedOnce P.Provider provider.old provider.new result }
     ensures provider { ProviderStays P.Provider provider.old provider.new }
-    ensures withheld { (fault : SignFault) → claims_for bytes.now (wanted_of wanted.now) (holder_seen holder.entry) ≡ Err fault
-        → IsLeftAlone (P.asks provider.old) (P.asks provider.new) result }
+    ensures withheld { (fault : SignFault) → claims_for bytes.now (wanted_of wanted.now) (holder_seen holder.entry)
+        ≡ Err fault → IsLeftAlone (P.asks provider.old) (P.asks provider.new) result }
 {
     head_law();
     token_bytes_law();
@@ -130,7 +141,8 @@ fn signature_of<P: Provider>(
     signing: &[u8],
     provider: &mut P,
 ) -> Result<[u8; 64], SignFault>
-    ensures exact { Gives decided (λ signature. signature) result (signature_of (P.signs provider.old) key.now signing.now) }
+    ensures exact { Gives decided (λ signature. signature) result
+        (signature_of (P.signs provider.old) key.now signing.now) }
     ensures asked { IsAskedOnce P.Provider provider.old provider.new result }
     ensures provider { ProviderStays P.Provider provider.old provider.new }
 {

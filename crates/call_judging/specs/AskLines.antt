@@ -5,8 +5,8 @@ use Rattle.cert_store.specs.Rules.{QuestionView}
 
 -- key, digest and signature in lower case hex digits
 unfoldable pub ask_line : QuestionView → List ℕ
-ask_line asked =
-    codes "confirm " ++ (encode_lower asked.key ++ (codes " " ++ (encode_lower asked.digest ++ (codes " " ++ (encode_lower asked.signature ++ codes "\n")))))
+ask_line asked = codes "confirm " ++ (encode_lower asked.key
+    ++ (codes " " ++ (encode_lower asked.digest ++ (codes " " ++ (encode_lower asked.signature ++ codes "\n")))))
 
 abbrev pub ask_lines : List QuestionView → List ℕ
 ask_lines [] = []

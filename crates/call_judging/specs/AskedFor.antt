@@ -1,4 +1,5 @@
--- Which questions are asked for a call, each in words (this project's own rule): whether one is asked, whatever its place.
+-- Which questions are asked for a call, each in words (this project's own rule): whether one is asked, whatever its
+-- place.
 use Rattle.std.specs.Prelude.{◌≡◌, ◌⊎◌, ℕ, ◌≤◌, List, [], ◌∷◌, Some, None}
 use Rattle.std.specs.List.{slice_get}
 use Rattle.cert_store.specs.Judged.{JudgedView}
@@ -19,7 +20,8 @@ SomeOf P (x ∷ others) = P x ⊎ SomeOf P others
 abbrev pub IsAmong : QuestionView → List QuestionView → Type 0
 IsAmong asked questions = SomeOf (λ one. asked ≡ one) questions
 
--- The question for the signature of a certificate in the chain of a PASSporT; the chain is there, and breaks none of rules 11, 12 and 14.
+-- The question for the signature of a certificate in the chain of a PASSporT; the chain is there, and breaks none of
+-- rules 11, 12 and 14.
 pub record AsksChain (world : World) (asked : QuestionView) (one : Reading) : Type 0 where
   pub judged : JudgedView
   pub known : truth_for world one ≡ have judged
@@ -38,7 +40,10 @@ pub record AsksOwn (world : World) (asked : QuestionView) (one : Reading) : Type
   pub first : slice_get judged.certificates 0 ≡ Some leaf
   pub asks : asked ≡ question leaf.key one.mark.digest one.mark.signature
 
--- of a call that breaks none of the rules of the call the first, and of one that breaks none of rules 1 to 14 the second too
+-- of a call that breaks none of the rules of the call the first, and of one that breaks none of rules 1 to 14 the
+-- second too
 pub data IsAskedFor (world : World) (call : Call) (asked : QuestionView) : Type 0 where
-  of_chain : HoldAll early_rules call → SomeOf (AsksChain world asked) (in_call_order call) → IsAskedFor world call asked
-  of_passport : HoldAll early_rules call → HoldAll (certificate_rules world) call → SomeOf (AsksOwn world asked) (in_call_order call) → IsAskedFor world call asked
+  of_chain : HoldAll early_rules call → SomeOf (AsksChain world asked) (in_call_order call)
+      → IsAskedFor world call asked
+  of_passport : HoldAll early_rules call → HoldAll (certificate_rules world) call
+      → SomeOf (AsksOwn world asked) (in_call_order call) → IsAskedFor world call asked

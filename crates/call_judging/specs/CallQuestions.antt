@@ -1,5 +1,5 @@
--- The questions that are asked of a provider of signatures for a call by itself: whether the signatures of its certificates and of its
--- PASSporTs are good.
+-- The questions that are asked of a provider of signatures for a call by itself: whether the signatures of its
+-- certificates and of its PASSporTs are good.
 use Rattle.std.specs.Prelude.{Bool, ◌&&◌, List, [], ◌∷◌, ◌++◌, is_none, Option, Some, None, if◌then◌else◌}
 use Rattle.std.specs.List.{slice_get}
 use Rattle.x509_profile.specs.View.{CertView}
@@ -59,8 +59,8 @@ questions_over own readings states = chains_questions states ++ (if own then own
 abbrev pub late_questions : World → Bool → List Reading → List QuestionView
 late_questions world own readings = questions_over own readings (truths world readings)
 
--- Of a call that breaks none of the rules of the call, those of the chains of its PASSporTs, in call order; and if it breaks none of rules 1 to
--- 14, those of the PASSporTs themselves.
+-- Of a call that breaks none of the rules of the call, those of the chains of its PASSporTs, in call order; and if it
+-- breaks none of rules 1 to 14, those of the PASSporTs themselves.
 unfoldable pub call_questions : World → Call → List QuestionView
-call_questions world call =
-    if is_none (first early_rules call) then late_questions world (is_none (first (certificate_rules world) call)) (in_call_order call) else []
+call_questions world call = if is_none (first early_rules call)
+    then late_questions world (is_none (first (certificate_rules world) call)) (in_call_order call) else []

@@ -1,5 +1,5 @@
--- What is explained of a call by itself (this project's own format): in the order of the rules a line for each that the call meets, up to
--- the first that it breaks, and a line for that one. The rule on replay isn't looked at.
+-- What is explained of a call by itself (this project's own format): in the order of the rules a line for each that the
+-- call meets, up to the first that it breaks, and a line for that one. The rule on replay isn't looked at.
 use Rattle.std.specs.Prelude.{ℕ, List, [], ◌∷◌, ◌++◌, codes, Option, Some, None}
 use Rattle.std.specs.Fmt.{decimal}
 use Rattle.verify_rules.specs.Call.{Call}
@@ -22,8 +22,8 @@ ok_line number rule = decimal number ++ (codes " " ++ (decimal rule ++ codes " o
 
 -- it breaks the rule, with the response code and the place
 unfoldable pub broken_line : ℕ → Refusal → List ℕ
-broken_line number refused =
-    decimal number ++ (codes " " ++ (decimal refused.rule ++ (codes " " ++ (decimal (code_of refused.rule) ++ (codes " " ++ (place_text refused.place ++ codes "\n"))))))
+broken_line number refused = decimal number ++ (codes " " ++ (decimal refused.rule
+    ++ (codes " " ++ (decimal (code_of refused.rule) ++ (codes " " ++ (place_text refused.place ++ codes "\n"))))))
 
 -- rule 10 isn't decided, since the file with the certificates of the PASSporT at this place couldn't be read
 unfoldable pub unread_line : ℕ → Place → List ℕ
@@ -38,7 +38,8 @@ line_or_more number rule (Some bad) others = broken_line number (refusal rule ba
 -- a line for each of these rules, up to the first that is broken
 abbrev pub explain_rules : ℕ → List Rule → Call → List ℕ
 explain_rules number [] call = []
-explain_rules number (rule ∷ others) call = line_or_more number rule.number (rule.broken call) (explain_rules number others call)
+explain_rules number (rule ∷ others) call =
+    line_or_more number rule.number (rule.broken call) (explain_rules number others call)
 
 -- What is explained of the call of this number in this world.
 unfoldable pub Explain : World → ℕ → Call → List ℕ

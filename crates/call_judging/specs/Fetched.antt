@@ -12,10 +12,12 @@ use Rattle.call_judging.specs.Chains.{IsRightWhere}
 use Rattle.call_judging.specs.declared.fetching.Fetched.{Fetched}
 use Rattle.call_judging.specs.declared.fetching.Fetched.TheVariants as fetched
 
--- What is known of the chain by it is right, over the files that the shelf tells: of bytes, whatever the rules on a chain say of them.
+-- What is known of the chain by it is right, over the files that the shelf tells: of bytes, whatever the rules on a
+-- chain say of them.
 abbrev pub IsFetched : Option Files → Materials → List ℕ → Fetched → Type 0
-IsFetched told materials x5u (fetched.Bytes bytes) =
-    (says : Says) (judged : JudgedView) → JudgedAs (judged_of materials.anchors materials.table says bytes.items) judged → IsRightWhere told materials says x5u (have judged)
+IsFetched told materials x5u (fetched.Bytes bytes) = (says : Says) (judged : JudgedView)
+    → JudgedAs (judged_of materials.anchors materials.table says bytes.items) judged
+    → IsRightWhere told materials says x5u (have judged)
 IsFetched told materials x5u fetched.Missing = (says : Says) → IsRightWhere told materials says x5u no_chain
 IsFetched told materials x5u fetched.TooLong = (says : Says) → IsRightWhere told materials says x5u long
 IsFetched told materials x5u fetched.Unread = (says : Says) → IsRightWhere told materials says x5u unread
@@ -42,9 +44,11 @@ bytes_in fetched.Unread = None
 -- bytes that were read are those of the file that is listed for this x5u, if the shelf tells its files
 abbrev pub IsContent : Option Files → Materials → List ℕ → Option (List ℕ) → Type 0
 IsContent told materials x5u None = ⊤
-IsContent told materials x5u (Some bytes) = (name : List ℕ) × (listed materials.chains x5u ≡ Some name) × OfFile told name (λ held. held ≡ Some bytes)
+IsContent told materials x5u (Some bytes) =
+    (name : List ℕ) × (listed materials.chains x5u ≡ Some name) × OfFile told name (λ held. held ≡ Some bytes)
 
--- how many certificates the chain in the bytes of a file has (RFC 5280, section 6.1); none if there are no bytes, or they aren't a chain
+-- how many certificates the chain in the bytes of a file has (RFC 5280, section 6.1); none if there are no bytes, or
+-- they aren't a chain
 abbrev pub chain_size : Option (List ℕ) → ℕ
 chain_size None = 0
 chain_size (Some bytes) = length (chain_in bytes)

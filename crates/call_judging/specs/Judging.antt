@@ -25,7 +25,8 @@ last_second call = last_of_call call
 
 -- ---- what the rules but the one on replay say of a call, in a world
 
--- a call that isn't set aside is refused by the first rule that it breaks, or passes; and it is set aside only if it may be
+-- a call that isn't set aside is refused by the first rule that it breaks, or passes; and it is set aside only if it
+-- may be
 abbrev pub IsFound : World → Call → Finding → Type 0
 IsFound world call (found.Refused refused) = First world call ≡ Some refused
 IsFound world call (found.Unread bad) = MayBeUnread world call bad

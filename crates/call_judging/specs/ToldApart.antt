@@ -18,7 +18,8 @@ line_of words = join_with_byte 32 words ++ codes "\n"
 pub record IsBrokenLine (number : ℕ) (refused : Refusal) (line : List ℕ) : Type 0 where
   pub code : ℕ
   pub has_code : HasCode refused.rule code
-  pub line_is : line ≡ line_of (decimal number ∷ decimal refused.rule ∷ decimal code ∷ join_with_byte 46 (decimal refused.place.field ∷ decimal refused.place.part ∷ []) ∷ [])
+  pub line_is : line ≡ line_of (decimal number ∷ decimal refused.rule ∷ decimal code
+      ∷ join_with_byte 46 (decimal refused.place.field ∷ decimal refused.place.part ∷ []) ∷ [])
 
 -- ---- what can be read back
 
@@ -29,8 +30,8 @@ FindingFits (Unread bad) = PlaceFits bad
 FindingFits (Unasked bad) = ⊤
 FindingFits (Passes pass) = ⊤
 
--- The rule and the place where it is broken, and the place where a file couldn't be read. Of an unasked call is told only that the rules before the
--- first that asks for a signature hold, and of one that passes that all do.
+-- The rule and the place where it is broken, and the place where a file couldn't be read. Of an unasked call is told
+-- only that the rules before the first that asks for a signature hold, and of one that passes that all do.
 abbrev pub AreToldAlike : Finding → Finding → Type 0
 AreToldAlike (Refused a) (Refused b) = a ≡ b
 AreToldAlike (Refused a) (Unread b) = ⊥

@@ -6,8 +6,8 @@ ghost use Rattle.stir_outside.specs.Count.{HasCause, one_more};
 use std::marker::Model;
 use stir_outside::{Failed, Provider};
 
-/// A provider of signatures to which each one is good, that makes none and never fails. It counts what it is asked, and a contract sees that
-/// count.
+/// A provider of signatures to which each one is good, that makes none and never fails. It counts what it is asked, and
+/// a contract sees that count.
 #[derive(Drop)]
 pub struct AlwaysYes {
     asks: u64,

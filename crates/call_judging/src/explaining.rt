@@ -1,6 +1,7 @@
 //! The lines that explain a call.
 ghost use Rattle.std.specs.Prelude.{◌≡◌, ◌++◌, IfOk, OnOk, string_bytes};
-ghost use Rattle.call_judging.specs.Explain.{broken_line, broken_text, explained, ok_line, ok_lines, unread_line, unread_text};
+ghost use Rattle.call_judging.specs.Explain.{broken_line, broken_text, explained, ok_line, ok_lines, unread_line};
+ghost use Rattle.call_judging.specs.Explain.{unread_text};
 ghost use Rattle.call_judging.specs.PlaceText.{place_text};
 
 use crate::finding::Finding;

@@ -5,7 +5,9 @@ ghost use Rattle.stir_outside.specs.Files.{tries};
 ghost use Rattle.stir_outside.specs.Stays.{ProviderStays, ShelfStays};
 ghost use Rattle.call_judging.specs.Causes.{HasCauseIf};
 ghost use Rattle.call_judging.specs.Chains.{state_of};
-ghost use Rattle.call_judging.specs.Fetched.{IsChainOf, IsContent, IsFetched, IsJudgedFile, bytes_in, certificates_in, chain_size, file_state, has_failed, is_read_file, is_unread_file, read_count};
+ghost use Rattle.call_judging.specs.Fetched.{IsChainOf, IsContent, IsFetched, IsJudgedFile, bytes_in, certificates_in};
+ghost use Rattle.call_judging.specs.Fetched.{chain_size, file_state, has_failed, is_read_file, is_unread_file};
+ghost use Rattle.call_judging.specs.Fetched.{read_count};
 
 use crate::chains::ChainStatus;
 use cert_store::{Judged, World, judge_chain};
@@ -53,9 +55,11 @@ pub fn fetch<S: Shelf>(
 ) -> Result<Fetched, AllocError>
     ensures fetched { IfOk result (IsFetched (S.files shelf.old) world.now x5u.now) }
     ensures content { IfOk result (λ file. IsContent (S.files shelf.old) world.now x5u.now (bytes_in file)) }
-    ensures unread { IfOk result (λ file. HasCauseIf (is_unread_file file) (S.counts shelf.old).faults (S.counts shelf.new).faults) }
+    ensures unread { IfOk result
+        (λ file. HasCauseIf (is_unread_file file) (S.counts shelf.old).faults (S.counts shelf.new).faults) }
     ensures read { IfOk result (λ file. (S.counts shelf.new).reads ≤ (S.counts shelf.old).reads + read_count file) }
-    ensures rose { IfOk result (λ file. HasCauseIf (is_read_file file) (S.counts shelf.old).reads (S.counts shelf.new).reads) }
+    ensures rose { IfOk result
+        (λ file. HasCauseIf (is_read_file file) (S.counts shelf.old).reads (S.counts shelf.new).reads) }
     ensures reads { (S.counts shelf.new).reads ≤ (S.counts shelf.old).reads + 1 }
     ensures tries { tries (S.counts shelf.new) ≤ tries (S.counts shelf.old) + 1 }
     ensures shelf { ShelfStays S.Shelf shelf.old shelf.new }
@@ -74,11 +78,15 @@ pub fn fetch_file<S: Shelf>(
     shelf: &mut S,
     name: &str,
 ) -> Result<Fetched, AllocError>
-    ensures fetched { (x5u : List ℕ) → listed world.now.chains x5u ≡ Some name.now → IfOk result (IsFetched (S.files shelf.old) world.now x5u) }
-    ensures content { (x5u : List ℕ) → listed world.now.chains x5u ≡ Some name.now → IfOk result (λ file. IsContent (S.files shelf.old) world.now x5u (bytes_in file)) }
-    ensures unread { IfOk result (λ file. HasCauseIf (is_unread_file file) (S.counts shelf.old).faults (S.counts shelf.new).faults) }
+    ensures fetched { (x5u : List ℕ) → listed world.now.chains x5u ≡ Some name.now
+        → IfOk result (IsFetched (S.files shelf.old) world.now x5u) }
+    ensures content { (x5u : List ℕ) → listed world.now.chains x5u ≡ Some name.now
+        → IfOk result (λ file. IsContent (S.files shelf.old) world.now x5u (bytes_in file)) }
+    ensures unread { IfOk result
+        (λ file. HasCauseIf (is_unread_file file) (S.counts shelf.old).faults (S.counts shelf.new).faults) }
     ensures read { IfOk result (λ file. (S.counts shelf.new).reads ≤ (S.counts shelf.old).reads + read_count file) }
-    ensures rose { IfOk result (λ file. HasCauseIf (is_read_file file) (S.counts shelf.old).reads (S.counts shelf.new).reads) }
+    ensures rose { IfOk result
+        (λ file. HasCauseIf (is_read_file file) (S.counts shelf.old).reads (S.counts shelf.new).reads) }
     ensures reads { (S.counts shelf.new).reads ≤ (S.counts shelf.old).reads + 1 }
     ensures tries { tries (S.counts shelf.new) ≤ tries (S.counts shelf.old) + 1 }
     ensures shelf { ShelfStays S.Shelf shelf.old shelf.new }
@@ -95,8 +103,8 @@ pub fn fetch_file<S: Shelf>(
     }
 }
 
-/// Judges the chain in a file that was read, if there are bytes of it. `AllocError` is the only error. The provider is asked at most for each certificate of
-/// the chain, also if memory runs out.
+/// Judges the chain in a file that was read, if there are bytes of it. `AllocError` is the only error. The provider is
+/// asked at most for each certificate of the chain, also if memory runs out.
 pub fn judge_file<P: Provider>(
     alloc: Global,
     world: &World,
@@ -106,7 +114,8 @@ pub fn judge_file<P: Provider>(
     ensures judged { IfOk result (IsJudgedFile world.now (P.says provider.old) file.now) }
     ensures asked { IfOk result (λ chain. P.asks provider.new ≤ P.asks provider.old + certificates_in chain) }
     ensures most { P.asks provider.new ≤ P.asks provider.old + chain_size (bytes_in file.now) }
-    ensures failed { IfOk result (λ chain. HasCauseIf (has_failed chain) (P.faults provider.old) (P.faults provider.new)) }
+    ensures failed { IfOk result
+        (λ chain. HasCauseIf (has_failed chain) (P.faults provider.old) (P.faults provider.new)) }
     ensures asks { P.asks provider.old ≤ P.asks provider.new }
     ensures provider { ProviderStays P.Provider provider.old provider.new }
 {
@@ -128,7 +137,8 @@ fn judge_bytes<P: Provider>(
     ensures judged { IfOk result (IsChainOf world.now (P.says provider.old) bytes.now) }
     ensures asked { IfOk result (λ chain. P.asks provider.new ≤ P.asks provider.old + certificates_in chain) }
     ensures most { P.asks provider.new ≤ P.asks provider.old + chain_size (Some bytes.now) }
-    ensures failed { IfOk result (λ chain. HasCauseIf (has_failed chain) (P.faults provider.old) (P.faults provider.new)) }
+    ensures failed { IfOk result
+        (λ chain. HasCauseIf (has_failed chain) (P.faults provider.old) (P.faults provider.new)) }
     ensures asks { P.asks provider.old ≤ P.asks provider.new }
     ensures provider { ProviderStays P.Provider provider.old provider.new }
 {

@@ -3,8 +3,8 @@ ghost use Rattle.call_judging.specs.Judging.{IsOfVerdict};
 
 use verify_rules::{Place, Refusal, Verdict};
 
-/// How a call is known again: the digest of what was signed as its last PASSporT (RFC 8225, section 9), and the last second at which that
-/// is fresh, in Unix time.
+/// How a call is known again: the digest of what was signed as its last PASSporT (RFC 8225, section 9), and the last
+/// second at which that is fresh, in Unix time.
 #[derive(Clone, Copy)]
 pub struct Pass {
     pub ticket: [u8; 32],

@@ -20,8 +20,9 @@ use verify_rules::{
     ScreenFault, Screened, Settings, Verdict, finish, screen, screened_law, signed_law,
 };
 
-/// Judges the call of this message, which came at this moment (Unix time, in seconds), by itself: by all rules but the one on replay. Its chains are
-/// read from the shelf and judged for it, in place of those that are handed in. `AllocError` is the only error.
+/// Judges the call of this message, which came at this moment (Unix time, in seconds), by itself: by all rules but the
+/// one on replay. Its chains are read from the shelf and judged for it, in place of those that are handed in.
+/// `AllocError` is the only error.
 pub fn judge_call<S: Shelf, P: Provider>(
     alloc: Global,
     settings: &Settings,
@@ -34,9 +35,12 @@ pub fn judge_call<S: Shelf, P: Provider>(
 ) -> Result<Finding, AllocError>
     ensures ticket { IfOk result (HasTicket (call_of settings.now moment message.now)) }
     ensures signed { IfOk result (HasSigned (call_of settings.now moment message.now)) }
-    ensures found { IfOk result (IsFoundWhere (S.files shelf.old) world.now (P.says provider.old) (call_of settings.now moment message.now)) }
-    ensures unread { IfOk result (λ finding. HasCauseIf (found_unread finding) (S.counts shelf.old).faults (S.counts shelf.new).faults) }
-    ensures unasked { IfOk result (λ finding. HasCauseIf (found_unasked finding) (P.faults provider.old) (P.faults provider.new)) }
+    ensures found { IfOk result
+        (IsFoundWhere (S.files shelf.old) world.now (P.says provider.old) (call_of settings.now moment message.now)) }
+    ensures unread { IfOk result
+        (λ finding. HasCauseIf (found_unread finding) (S.counts shelf.old).faults (S.counts shelf.new).faults) }
+    ensures unasked { IfOk result
+        (λ finding. HasCauseIf (found_unasked finding) (P.faults provider.old) (P.faults provider.new)) }
     ensures shelf { ShelfStays S.Shelf shelf.old shelf.new }
     ensures provider { ProviderStays P.Provider provider.old provider.new }
 {
@@ -50,8 +54,8 @@ pub fn judge_call<S: Shelf, P: Provider>(
     }
 }
 
-/// Judges a call that was screened, which came at this moment: reads its chains as [`read_chains`] does, and tries the rules that look at them.
-/// `AllocError` is the only error.
+/// Judges a call that was screened, which came at this moment: reads its chains as [`read_chains`] does, and tries the
+/// rules that look at them. `AllocError` is the only error.
 pub fn judge_screened<S: Shelf, P: Provider>(
     alloc: Global,
     world: &World,
@@ -65,13 +69,17 @@ pub fn judge_screened<S: Shelf, P: Provider>(
     ensures signed { (call : Call) → IsScreenedBy early_rules call (Ok screened.now) → IfOk result (HasSigned call) }
     ensures found { (call : Call) → IsScreenedBy early_rules call (Ok screened.now) → moment ≡ call.moment
         → IfOk result (IsFoundWhere (S.files shelf.old) world.now (P.says provider.old) call) }
-    ensures unread { IfOk result (λ finding. HasCauseIf (found_unread finding) (S.counts shelf.old).faults (S.counts shelf.new).faults) }
-    ensures unasked { IfOk result (λ finding. HasCauseIf (found_unasked finding) (P.faults provider.old) (P.faults provider.new)) }
+    ensures unread { IfOk result
+        (λ finding. HasCauseIf (found_unread finding) (S.counts shelf.old).faults (S.counts shelf.new).faults) }
+    ensures unasked { IfOk result
+        (λ finding. HasCauseIf (found_unasked finding) (P.faults provider.old) (P.faults provider.new)) }
 
     // The chains that were read, for who asks about them afterwards.
     ensures counted { OnOk result (length chains.new ≡ length screened.now.readings) }
-    ensures right { OnOk result (AreRightWhere (S.files shelf.old) world.now (P.says provider.old) screened.now.readings chains.new) }
-    ensures known { OnOk result (HasCauseIf (list_any is_unread chains.new) (S.counts shelf.old).faults (S.counts shelf.new).faults) }
+    ensures right { OnOk result
+        (AreRightWhere (S.files shelf.old) world.now (P.says provider.old) screened.now.readings chains.new) }
+    ensures known { OnOk result
+        (HasCauseIf (list_any is_unread chains.new) (S.counts shelf.old).faults (S.counts shelf.new).faults) }
 
     ensures shelf { ShelfStays S.Shelf shelf.old shelf.new }
     ensures provider { ProviderStays P.Provider provider.old provider.new }
@@ -98,7 +106,8 @@ fn finding_of(verdict: Verdict, screened: &Screened) -> Finding
 
 /// By what a call that was screened is known again, if it passes.
 pub fn pass_of(screened: &Screened) -> Pass
-    ensures ticket { (call : Call) → IsScreenedBy early_rules call (Ok screened.now) → IsKnownBy call result.ticket result.last }
+    ensures ticket { (call : Call) → IsScreenedBy early_rules call (Ok screened.now)
+        → IsKnownBy call result.ticket result.last }
     ensures signed { (call : Call) → IsScreenedBy early_rules call (Ok screened.now) → IsKnownAgain call }
 {
     screened_law();

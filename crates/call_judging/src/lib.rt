@@ -15,8 +15,9 @@
 //! Finding                     Passes(pass), Refused(refusal), Unread(place) or Unasked(place)
 //! ```
 //!
-//! - [`judge_call`] goes the whole way, and [`judge_screened`] from the second step on. [`read_chains`] reads and judges the chains of a call that was
-//!   screened, and [`chain_in`] one chain. [`pass_of`] tells by what a screened call is known again.
+//! - [`judge_call`] goes the whole way, and [`judge_screened`] from the second step on. [`read_chains`] reads and
+//!   judges the chains of a call that was screened, and [`chain_in`] one chain. [`pass_of`] tells by what a screened
+//!   call is known again.
 //! - The files come from a `stir_outside::Shelf`, and the answers about signatures from a `stir_outside::Provider`.
 //!
 //! ```rust
@@ -29,13 +30,13 @@
 //!
 //! # What it isn't
 //!
-//! It looks at no other call: replay is a matter of `verify_service`. It keeps nothing, starts no thread, and reads no log. The rules themselves are in
-//! `verify_rules`, and those on a chain in `cert_store`.
+//! It looks at no other call: replay is a matter of `verify_service`. It keeps nothing, starts no thread, and reads no
+//! log. The rules themselves are in `verify_rules`, and those on a chain in `cert_store`.
 //!
 //! # What is proved
 //!
-//! What is found is what the rules say of the call in the world of the files and the signatures. A call is set aside only if a read or a question
-//! failed and was counted. `docs/dev/PROVED.md` has the clauses.
+//! What is found is what the rules say of the call in the world of the files and the signatures. A call is set aside
+//! only if a read or a question failed and was counted. `docs/dev/PROVED.md` has the clauses.
 //!
 //! # Cases
 //!

@@ -1,4 +1,5 @@
-//! What a provider of signatures is asked for a call: whether the signatures of its certificates and of its PASSporTs are good.
+//! What a provider of signatures is asked for a call: whether the signatures of its certificates and of its PASSporTs
+//! are good.
 ghost use Rattle.std.specs.Prelude.{◌≡◌, ◌<◌, ◌≤◌, ◌++◌, map, length, option_to_list, IfOk, OnOk, Some, string_bytes};
 ghost use Rattle.std.specs.List.{slice_get};
 ghost use Rattle.std.specs.Option.{option_copied, option_map};
@@ -6,7 +7,8 @@ ghost use Rattle.cert_store.specs.Questions.{question_at, questions_of, seen};
 ghost use Rattle.verify_rules.specs.Call.{Reading};
 ghost use Rattle.verify_rules.specs.States.{seen as state_seen};
 ghost use Rattle.call_judging.specs.AskLines.{ask_line};
-ghost use Rattle.call_judging.specs.CallQuestions.{chain_questions, has_authority, judged_questions, own_question, own_questions, under_leaf};
+ghost use Rattle.call_judging.specs.CallQuestions.{chain_questions, has_authority, judged_questions, own_question};
+ghost use Rattle.call_judging.specs.CallQuestions.{own_questions, under_leaf};
 ghost use Rattle.call_judging.specs.Verdicts.{asks_own};
 
 use crate::rule_numbers::FIRST_ON_SIGNATURES;
@@ -15,8 +17,8 @@ use std::alloc::{AllocError, Global};
 use verify_rules::{ChainState, Chains, Screened, Verdict};
 use x509_profile::Certificate;
 
-/// The questions for the signatures of a chain's certificates, from the leaf's on, if rules 10, 11, 12 and 14 hold for it; else none. `AllocError`
-/// is the only error.
+/// The questions for the signatures of a chain's certificates, from the leaf's on, if rules 10, 11, 12 and 14 hold for
+/// it; else none. `AllocError` is the only error.
 pub fn chain_questions(
     alloc: Global,
     state: ChainState<'_>,
@@ -63,7 +65,8 @@ fn all_questions(alloc: Global, judged: &Judged) -> Result<Vec<Question<'_>>, Al
 /// Adds a question, if there is one.
 #[tactic(auto, using(crate::proofs::ChainSteps::added_some, crate::proofs::ChainSteps::added_none))]
 fn add<'a>(asked: &mut Vec<Question<'a>>, question: Option<Question<'a>>) -> Result<(), AllocError>
-    ensures { OnOk result (map seen asked.new.items ≡ map seen asked.old.items ++ option_to_list (option_map seen question.entry)) }
+    ensures { OnOk result (map seen asked.new.items ≡ map seen asked.old.items
+        ++ option_to_list (option_map seen question.entry)) }
 {
     match question {
         Some(question) => {
@@ -74,8 +77,8 @@ fn add<'a>(asked: &mut Vec<Question<'a>>, question: Option<Question<'a>>) -> Res
     }
 }
 
-/// The questions for the signatures of a call's PASSporTs, in the order in which the call went, under the keys of the leaves of their chains. There is
-/// one state of a chain for each PASSporT. `AllocError` is the only error.
+/// The questions for the signatures of a call's PASSporTs, in the order in which the call went, under the keys of the
+/// leaves of their chains. There is one state of a chain for each PASSporT. `AllocError` is the only error.
 #[tactic(auto, using(crate::proofs::OwnSteps::none_yet, crate::proofs::OwnSteps::one_more, crate::proofs::OwnSteps::all_there))]
 pub fn own_questions<'a, C: Chains>(
     alloc: Global,
@@ -126,7 +129,8 @@ fn under_leaf<'a>(
     }
 }
 
-/// Whether the signatures of the PASSporTs are asked for: no rule before the first that asks for a signature is broken, nor left open.
+/// Whether the signatures of the PASSporTs are asked for: no rule before the first that asks for a signature is broken,
+/// nor left open.
 pub fn asks_own(verdict: Verdict) -> bool
     ensures { result ≡ asks_own verdict }
 {

@@ -15,7 +15,8 @@ use std::alloc::{AllocError, Global};
 use stir_outside::{Provider, Shelf};
 use verify_rules::{Screened, right_law};
 
-/// Reads and judges the chain of each PASSporT of a call, in the order in which the call went, in place of those that there were.
+/// Reads and judges the chain of each PASSporT of a call, in the order in which the call went, in place of those that
+/// there were.
 pub fn read_chains<S: Shelf, P: Provider>(
     alloc: Global,
     world: &World,
@@ -25,11 +26,14 @@ pub fn read_chains<S: Shelf, P: Provider>(
     chains: &mut CallChains,
 ) -> Result<(), AllocError>
     ensures counted { OnOk result (length chains.new ≡ length screened.now.readings) }
-    ensures right { OnOk result (AreRightWhere (S.files shelf.old) world.now (P.says provider.old) screened.now.readings chains.new) }
+    ensures right { OnOk result
+        (AreRightWhere (S.files shelf.old) world.now (P.says provider.old) screened.now.readings chains.new) }
 
     // A chain isn't known, or has a question that failed, only if a fault was counted.
-    ensures unread { OnOk result (HasCauseIf (list_any is_unread chains.new) (S.counts shelf.old).faults (S.counts shelf.new).faults) }
-    ensures unasked { OnOk result (HasCauseIf (list_any is_unasked chains.new) (P.faults provider.old) (P.faults provider.new)) }
+    ensures unread { OnOk result
+        (HasCauseIf (list_any is_unread chains.new) (S.counts shelf.old).faults (S.counts shelf.new).faults) }
+    ensures unasked { OnOk result
+        (HasCauseIf (list_any is_unasked chains.new) (P.faults provider.old) (P.faults provider.new)) }
 
     ensures shelf { ShelfStays S.Shelf shelf.old shelf.new }
     ensures provider { ProviderStays P.Provider provider.old provider.new }
@@ -52,9 +56,12 @@ fn chain_of<S: Shelf, P: Provider>(
     provider: &mut P,
     x5u: &[u8],
 ) -> Result<ChainStatus, AllocError>
-    ensures right { IfOk result (λ chain. IsRightWhere (S.files shelf.old) world.now (P.says provider.old) x5u.now (state_of chain)) }
-    ensures unread { IfOk result (λ chain. HasCauseIf (is_unread (state_of chain)) (S.counts shelf.old).faults (S.counts shelf.new).faults) }
-    ensures unasked { IfOk result (λ chain. HasCauseIf (is_unasked (state_of chain)) (P.faults provider.old) (P.faults provider.new)) }
+    ensures right { IfOk result
+        (λ chain. IsRightWhere (S.files shelf.old) world.now (P.says provider.old) x5u.now (state_of chain)) }
+    ensures unread { IfOk result
+        (λ chain. HasCauseIf (is_unread (state_of chain)) (S.counts shelf.old).faults (S.counts shelf.new).faults) }
+    ensures unasked { IfOk result
+        (λ chain. HasCauseIf (is_unasked (state_of chain)) (P.faults provider.old) (P.faults provider.new)) }
     ensures shelf { ShelfStays S.Shelf shelf.old shelf.new }
     ensures provider { ProviderStays P.Provider provider.old provider.new }
 {
@@ -72,7 +79,8 @@ pub fn chain_in<S: Shelf, P: Provider>(
 ) -> Result<ChainStatus, AllocError>
     ensures right { (x5u : List ℕ) → listed world.now.chains x5u ≡ Some name.now
         → IfOk result (λ chain. IsRightWhere (S.files shelf.old) world.now (P.says provider.old) x5u (state_of chain)) }
-    ensures unread { IfOk result (λ chain. HasCauseIf (is_unread (state_of chain)) (S.counts shelf.old).faults (S.counts shelf.new).faults) }
+    ensures unread { IfOk result
+        (λ chain. HasCauseIf (is_unread (state_of chain)) (S.counts shelf.old).faults (S.counts shelf.new).faults) }
     ensures unasked { IfOk result (λ chain. HasCauseIf (is_unasked (state_of chain)) (P.faults provider.old) (P.faults provider.new)) }
     ensures shelf { ShelfStays S.Shelf shelf.old shelf.new }
     ensures provider { ProviderStays P.Provider provider.old provider.new }
@@ -91,7 +99,8 @@ fn judge_fetched<P: Provider>(
     ensures right { (told : Option Files) (x5u : List ℕ) → IsFetched told world.now x5u file.now
         → IfOk result (λ chain. IsRightWhere told world.now (P.says provider.old) x5u (state_of chain)) }
     ensures unread { IfOk result (λ chain. is_unread (state_of chain) ≡ is_unread_file file.now) }
-    ensures unasked { IfOk result (λ chain. HasCauseIf (is_unasked (state_of chain)) (P.faults provider.old) (P.faults provider.new)) }
+    ensures unasked { IfOk result
+        (λ chain. HasCauseIf (is_unasked (state_of chain)) (P.faults provider.old) (P.faults provider.new)) }
     ensures provider { ProviderStays P.Provider provider.old provider.new }
 {
     let judged = judge_file(alloc, world, file, provider)?;

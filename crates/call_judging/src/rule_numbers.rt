@@ -3,8 +3,8 @@ ghost use Rattle.std.specs.List.{prefix_len};
 ghost use Rattle.std.specs.Prelude.{◌≡◌, nat_lt};
 ghost use Rattle.call_judging.specs.RuleNumbers.{numbers_before};
 
-/// The rules, in the order in which they are tried: on what the call itself says, on the chains of its PASSporTs, and on the signatures with what
-/// comes after them. Rule 18, the one on replay, looks at other calls.
+/// The rules, in the order in which they are tried: on what the call itself says, on the chains of its PASSporTs, and
+/// on the signatures with what comes after them. Rule 18, the one on replay, looks at other calls.
 pub const RULES: [u8; 18] = [
     1, 2, 3, 4, 5, 6, 7, 8, 9, 10, 11, 12, 13, 14, 15, 16, 17, 19,
 ];

@@ -42,7 +42,9 @@ MessageStops said left left_now Source = TakesFewer said left left_now
 MessageStops said left left_now Memory = TakesSome left left_now
 
 -- as many bytes as said were taken, or fewer if nothing is left
-abbrev pub MessageFrom : {Y : Type 0} → ℕ → Option (List ℕ) → Option (List ℕ) → Result (Option (Vec ℕ Y)) ReadFault → Type 0
-MessageFrom said left left_now (Ok (Some message)) = (length (vec_items message) ≡ said) × Consumes left left_now (vec_items message)
+abbrev pub MessageFrom : {Y : Type 0} → ℕ → Option (List ℕ) → Option (List ℕ)
+    → Result (Option (Vec ℕ Y)) ReadFault → Type 0
+MessageFrom said left left_now (Ok (Some message)) =
+    (length (vec_items message) ≡ said) × Consumes left left_now (vec_items message)
 MessageFrom said left left_now (Ok None) = TakesFewer said left left_now × IsAtEnd left_now
 MessageFrom said left left_now (Err fault) = MessageStops said left left_now fault

@@ -1,4 +1,5 @@
--- What is wrong with a log that isn't whole, said of the bytes after its entries. An entry too many comes first, then one whose moment falls, then any other.
+-- What is wrong with a log that isn't whole, said of the bytes after its entries. An entry too many comes first, then
+-- one whose moment falls, then any other.
 use Rattle.std.specs.Prelude.{◌≡◌, ◌≢◌, ℕ, ◌<◌, ◌≤◌, List, [], ◌∷◌, ◌++◌, ⊤, ◌⊎◌, Option}
 use Rattle.std.specs.Io.KnownBytes.{IsAtEnd}
 use Rattle.call_log.specs.Entry.{headed, most_entries, most_message_length}
@@ -54,7 +55,8 @@ pub record ShowsAtEnd (P : List ℕ → Type 0) (bytes : List ℕ) (left_now : O
 abbrev pub Shows : (List ℕ → Type 0) → List ℕ → Option (List ℕ) → Type 0
 Shows P taken left_now = ShowsAtByte P taken ⊎ ShowsAtEnd P taken left_now
 
--- why the bytes taken after the entries stopped the reader. If the source failed, they hold no further entry; memory may run out at any time
+-- why the bytes taken after the entries stopped the reader. If the source failed, they hold no further entry; memory
+-- may run out at any time
 abbrev pub Knows : Passed → List ℕ → Option (List ℕ) → LogFault → Type 0
 Knows passed taken left_now (Grammar place) = Shows (IsGrammar passed place) taken left_now
 Knows passed taken left_now (Backward place) = Shows (IsBackward passed place) taken left_now

@@ -10,7 +10,8 @@ use Rattle.call_log.specs.declared.fault.LogFault.TheVariants.{Grammar, Backward
 pub record HandsCall (passed : Passed) (bytes : List ℕ) (left_now : Option (List ℕ)) (call : Entry) : Type 0 where
   pub behind : List ℕ
   pub left : left_now ≡ Some behind
-  pub goes_on : (others : List Entry) (rest : List ℕ) → LogText (after passed call) behind others rest → LogText passed bytes (call ∷ others) rest
+  pub goes_on : (others : List Entry) (rest : List ℕ) → LogText (after passed call) behind others rest
+      → LogText passed bytes (call ∷ others) rest
 
 -- no call comes before the fault
 pub record HandsFault (passed : Passed) (bytes : List ℕ) (Has : List ℕ → Type 0) : Type 0 where
@@ -36,8 +37,11 @@ HandsOutOf passed (Some bytes) left_now result = HandsOut passed bytes left_now 
 
 -- bytes are one log
 abbrev pub OneLog : Type 0
-OneLog = (passed : Passed) (bytes : List ℕ) (calls others : List Entry) (rest behind : List ℕ) → LogText passed bytes calls rest → LogText passed bytes others behind → (calls ≡ others) × (rest ≡ behind)
+OneLog = (passed : Passed) (bytes : List ℕ) (calls others : List Entry) (rest behind : List ℕ)
+    → LogText passed bytes calls rest → LogText passed bytes others behind → (calls ≡ others) × (rest ≡ behind)
 
 -- no longer list of calls is that of the log
 abbrev pub NoLongerLog : Type 0
-NoLongerLog = (passed : Passed) (bytes : List ℕ) (calls others : List Entry) (rest behind : List ℕ) → LogText passed bytes calls rest → AreCalls passed others → bytes ≡ entry_texts others ++ behind → length others ≤ length calls
+NoLongerLog = (passed : Passed) (bytes : List ℕ) (calls others : List Entry) (rest behind : List ℕ)
+    → LogText passed bytes calls rest → AreCalls passed others → bytes ≡ entry_texts others ++ behind
+    → length others ≤ length calls

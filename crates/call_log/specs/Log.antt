@@ -3,7 +3,8 @@ use Rattle.std.specs.Prelude.{◌≡◌, ℕ, ◌+◌, ◌<◌, ◌≤◌, List,
 use Rattle.call_log.specs.Entry.{Entry, entry_text, most_entries, most_message_length}
 use Rattle.text_grammar.specs.Moment.{last_second}
 
--- how far a log was read: the number and the moment of the last entry, how many entries, and the offset of the byte after them
+-- how far a log was read: the number and the moment of the last entry, how many entries, and the offset of the byte
+-- after them
 pub record Passed : Type 0 where
   pub number : ℕ
   pub moment : ℕ
@@ -16,7 +17,12 @@ start number moment = record { number = number; moment = moment; count = 0; plac
 
 -- one more entry was read
 abbrev pub after : Passed → Entry → Passed
-after passed call = record { number = call.number; moment = call.moment; count = passed.count + 1; place = passed.place + length (entry_text call) }
+after passed call = record {
+  number = call.number;
+  moment = call.moment;
+  count = passed.count + 1;
+  place = passed.place + length (entry_text call);
+}
 
 -- the call may come next in the log
 pub record IsNext (passed : Passed) (call : Entry) : Type 0 where

@@ -1,5 +1,7 @@
--- What the reader of a number takes: decimal digits without a leading zero except in `0` itself, and one byte after them.
-use Rattle.std.specs.Prelude.{◌≡◌, ◌≢◌, ℕ, ◌≤◌, false, List, [], ◌∷◌, ◌++◌, length, Option, Some, None, Result, Ok, Err, ◌⊎◌}
+-- What the reader of a number takes: decimal digits without a leading zero except in `0` itself, and one byte after
+-- them.
+use Rattle.std.specs.Prelude.{◌≡◌, ◌≢◌, ℕ, ◌≤◌, false, List, [], ◌∷◌, ◌++◌, length, Option, Some, None, Result, Ok, Err}
+use Rattle.std.specs.Prelude.{◌⊎◌}
 use Rattle.std.specs.Char.{is_ascii_digit}
 use Rattle.std.specs.Fmt.{decimal}
 use Rattle.std.specs.Io.KnownBytes.{Consumes, IsAtEnd}
@@ -30,8 +32,10 @@ pub record AreDigits (most : ℕ) (digits : Digits) (bytes : List ℕ) : Type 0 
 
 -- the byte is a further digit, or no number goes on with it
 abbrev pub GoesOn : ℕ → Digits → ℕ → Option Digits → Type 0
-GoesOn most digits byte (Some more) = (bytes : List ℕ) → AreDigits most digits bytes → AreDigits most more (bytes ++ byte ∷ [])
-GoesOn most digits byte None = (bytes more : List ℕ) (last : ℕ) → AreDigits most digits bytes → is_ascii_digit last ≡ false → byte ≢ last → NoNumber most last (bytes ++ byte ∷ more)
+GoesOn most digits byte (Some more) = (bytes : List ℕ) → AreDigits most digits bytes
+    → AreDigits most more (bytes ++ byte ∷ [])
+GoesOn most digits byte None = (bytes more : List ℕ) (last : ℕ) → AreDigits most digits bytes
+    → is_ascii_digit last ≡ false → byte ≢ last → NoNumber most last (bytes ++ byte ∷ more)
 
 -- the number and the byte after it were taken
 pub record TakesNumber (most last : ℕ) (left left_now : Option (List ℕ)) (digits : Digits) : Type 0 where

@@ -25,7 +25,8 @@ pub record FindsEnd (front : List ℕ) (left left_now : Option (List ℕ)) : Typ
   pub none_taken : Consumes left left_now []
   pub ended : IsAtEnd left_now
 
-pub record FindsFault (passed : Passed) (front : List ℕ) (left left_now : Option (List ℕ)) (fault : LogFault) : Type 0 where
+pub record FindsFault (passed : Passed) (front : List ℕ) (left left_now : Option (List ℕ))
+    (fault : LogFault) : Type 0 where
   pub taken : List ℕ
   pub consumed : Consumes left left_now taken
   pub known : Knows passed (front ++ taken) left_now fault

@@ -7,8 +7,8 @@ use Rattle.call_log.specs.Log.{IsNext, Passed, after}
 use Rattle.call_log.specs.Supply.{unless_ended}
 use Rattle.call_log.specs.declared.fault.LogFault.{LogFault}
 
--- a reader: how far it has read, the bytes that it took and hasn't used yet, whether its source has said that it has ended, and the fault at
--- which it stopped
+-- a reader: how far it has read, the bytes that it took and hasn't used yet, whether its source has said that it has
+-- ended, and the fault at which it stopped
 pub record LogState : Type 0 where
   pub passed : Passed
   pub ahead : List ℕ

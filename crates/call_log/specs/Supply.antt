@@ -1,4 +1,5 @@
--- The bytes that a reader takes of a source ahead of their use, in blocks of 65,536, and how often it asks the source for them.
+-- The bytes that a reader takes of a source ahead of their use, in blocks of 65,536, and how often it asks the source
+-- for them.
 use Rattle.std.specs.Prelude.{◌≡◌, ⊤, ℕ, ◌+◌, ◌*◌, ◌≤◌, Bool, true, false, List, [], ◌∷◌, length, Option, Some, None}
 use Rattle.std.specs.Io.KnownBytes.{IsAtEnd, prepend_known}
 use Rattle.stir_outside.specs.Count.{Rose}
@@ -21,7 +22,8 @@ available ahead left = prepend_known ahead.bytes (unless_ended ahead.ended left)
 
 -- ---- how often the source is asked
 
--- a source and its reader: whether the source has said that it has ended, what it has left, whether its reads are whole, and its counts
+-- a source and its reader: whether the source has said that it has ended, what it has left, whether its reads are
+-- whole, and its counts
 pub record Supply : Type 0 where
   pub ended : Bool
   pub left : Option (List ℕ)
@@ -58,7 +60,8 @@ PacedBy before now None left_now = ⊤
 PacedBy before now (Some left) None = ⊥
 PacedBy before now (Some left) (Some left_now) = due now.reads now.ended left_now ≤ due before.reads before.ended left
 
--- What a call asks of the source: nothing if the source has said that it has ended, and of one whose reads are whole no more than is due.
+-- What a call asks of the source: nothing if the source has said that it has ended, and of one whose reads are whole no
+-- more than is due.
 pub record Draws (before now : Supply) : Type 0 where
   pub silent : before.ended ≡ true → now ≡ before
   pub keeps : EndsRight before → EndsRight now
@@ -71,8 +74,10 @@ abbrev pub DrawsEach : Supply → List Supply → Supply → Type 0
 DrawsEach before [] now = Draws before now
 DrawsEach before (between ∷ others) now = Draws before between × DrawsEach between others now
 
--- What a reader asks of the source over the bytes ahead. If the source's own fault is answered, the source counted it in this call, and no byte is ahead.
-pub record Asks {I : Type 0} (source : SourceOf I) (ahead : AheadState) (before : I) (ahead_now : AheadState) (now : I) (is_failed : Type 0) : Type 0 where
+-- What a reader asks of the source over the bytes ahead. If the source's own fault is answered, the source counted it
+-- in this call, and no byte is ahead.
+pub record Asks {I : Type 0} (source : SourceOf I) (ahead : AheadState) (before : I) (ahead_now : AheadState) (now : I)
+    (is_failed : Type 0) : Type 0 where
   pub draws : Draws (supply_of source ahead.ended before) (supply_of source ahead_now.ended now)
   pub rose : is_failed → Rose (source.faults before) (source.faults now)
   pub drained : is_failed → available ahead_now (source.left now) ≡ source.left now

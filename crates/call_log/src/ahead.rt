@@ -11,7 +11,8 @@ use stir_outside::{Failed, ReadFault, Source};
 /// How many bytes one read asks for.
 const BLOCK: usize = 65_536;
 
-/// The bytes that were taken of a source and not used yet, in a block, and whether the source has said that it has ended.
+/// The bytes that were taken of a source and not used yet, in a block, and whether the source has said that it has
+/// ended.
 #[derive(Drop)]
 pub(crate) struct Ahead {
     block: [u8; BLOCK],
@@ -48,7 +49,8 @@ impl Ahead {
     fn fill<I: Source>(&mut self, source: &mut I) -> Result<(), Failed>
         ensures same { Consumes (available self.old (I.left source.old)) (available self.new (I.left source.new)) [] }
         ensures some { IfOk result (λ _. self.new.bytes ≡ [] → IsAtEnd (available self.new (I.left source.new))) }
-        ensures draws { Draws (supply_of I.Source self.old.ended source.old) (supply_of I.Source self.new.ended source.new) }
+        ensures draws { Draws (supply_of I.Source self.old.ended source.old)
+            (supply_of I.Source self.new.ended source.new) }
         ensures rose { OnErr result (Rose (I.faults source.old) (I.faults source.new)) }
         ensures drained { OnErr result (available self.new (I.left source.new) ≡ I.left source.new) }
     {
@@ -70,7 +72,8 @@ impl Ahead {
     pub(crate) fn next_byte<I: Source>(&mut self, source: &mut I) -> Result<Option<u8>, Failed>
         ensures byte { ByteFrom
             (available self.old (I.left source.old)) (available self.new (I.left source.new)) result }
-        ensures draws { Draws (supply_of I.Source self.old.ended source.old) (supply_of I.Source self.new.ended source.new) }
+        ensures draws { Draws (supply_of I.Source self.old.ended source.old)
+            (supply_of I.Source self.new.ended source.new) }
         ensures rose { OnErr result (Rose (I.faults source.old) (I.faults source.new)) }
         ensures drained { OnErr result (available self.new (I.left source.new) ≡ I.left source.new) }
     {
@@ -83,7 +86,8 @@ impl Ahead {
         Ok(Some(byte))
     }
 
-    /// Puts at most so many of the next bytes after what `bytes` holds, as many as are ahead, and says how many; 0 only if the source has ended.
+    /// Puts at most so many of the next bytes after what `bytes` holds, as many as are ahead, and says how many; 0 only
+    /// if the source has ended.
     pub(crate) fn copy_to<I: Source>(
         &mut self,
         source: &mut I,
@@ -91,8 +95,8 @@ impl Ahead {
         most: usize,
     ) -> Result<usize, ReadFault>
         requires { 0 < most }
-        ensures piece { PieceFrom most
-            (available self.old (I.left source.old)) (available self.new (I.left source.new)) bytes.old.items bytes.new.items result }
+        ensures piece { PieceFrom most (available self.old (I.left source.old)) (available self.new (I.left source.new))
+            bytes.old.items bytes.new.items result }
         ensures asks { Asks I.Source self.old source.old self.new source.new (result ≡ Err ReadFault.Source) }
     {
         self.fill(source)?;

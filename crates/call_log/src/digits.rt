@@ -59,7 +59,8 @@ pub(crate) fn next_number<I: Source>(
     requires last { is_ascii_digit last ≡ false }
     ensures number { NumberFrom most last
         (available ahead.old (I.left source.old)) (available ahead.new (I.left source.new)) result }
-    ensures draws { Draws (supply_of I.Source ahead.old.ended source.old) (supply_of I.Source ahead.new.ended source.new) }
+    ensures draws { Draws (supply_of I.Source ahead.old.ended source.old)
+        (supply_of I.Source ahead.new.ended source.new) }
     ensures rose { OnErr result (Rose (I.faults source.old) (I.faults source.new)) }
     ensures drained { OnErr result (available ahead.new (I.left source.new) ≡ I.left source.new) }
 {

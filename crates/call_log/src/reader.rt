@@ -43,8 +43,8 @@ impl LogReader {
         LogReader::after(alloc, 0, 0)
     }
 
-    /// A reader at the beginning of a log that goes on from an earlier one: its calls are numbered from above `call`, and none comes before `moment`,
-    /// in Unix seconds.
+    /// A reader at the beginning of a log that goes on from an earlier one: its calls are numbered from above `call`,
+    /// and none comes before `moment`, in Unix seconds.
     pub fn after(alloc: Global, call: u32, moment: u64) -> LogReader
         requires { call ≤ 4000000000 }
         ensures { result ≡ record { passed = start call moment; ahead = []; ended = false; fault = None } }
@@ -64,12 +64,13 @@ impl LogReader {
 
     /// Reads the next call of the log; `None` if the log has ended.
     ///
-    /// A place is the offset of the entry's first byte, counted from where the reader began. After a fault every call answers that fault. `Source` comes only
-    /// if a read failed; what was taken of the source is what was needed.
+    /// A place is the offset of the entry's first byte, counted from where the reader began. After a fault every call
+    /// answers that fault. `Source` comes only if a read failed; what was taken of the source is what was needed.
     #[tactic(auto, using(crate::proofs::LogLaws::hands_out))]
     pub fn next<I: Source>(&mut self, source: &mut I) -> Result<Option<Call>, LogFault>
         // After a fault nothing is read and nothing changes.
-        ensures again { IfSome self.old.fault (λ fault. (result ≡ Err fault) × (self.new ≡ self.old) × (source.new ≡ source.old)) }
+        ensures again { IfSome self.old.fault
+            (λ fault. (result ≡ Err fault) × (self.new ≡ self.old) × (source.new ≡ source.old)) }
 
         // What was taken, whether the source tells it or not; and if it does, what of all that is left.
         ensures reads { IfNone self.old.fault (Reads self.old.passed
@@ -79,9 +80,10 @@ impl LogReader {
         ensures moves { IfNone self.old.fault (Moves self.old.passed self.new result) }
         ensures bounded { self.new.passed.count ≤ most_entries }
 
-        // How often the source was asked. It isn't asked after it said that it has ended. If its reads are whole, it is asked for blocks of 65,536 bytes
-        // alone, but for two (`reads_law`).
-        ensures draws { Draws (supply_of I.Source self.old.ended source.old) (supply_of I.Source self.new.ended source.new) }
+        // How often the source was asked. It isn't asked after it said that it has ended. If its reads are whole, it is
+        // asked for blocks of 65,536 bytes alone, but for two (`reads_law`).
+        ensures draws { Draws (supply_of I.Source self.old.ended source.old)
+            (supply_of I.Source self.new.ended source.new) }
 
         // The source failed in this call, or in that which first said so, and then no byte is ahead.
         ensures rose { IfNone self.old.fault (result ≡ Err LogFault.Source
@@ -100,12 +102,14 @@ impl LogReader {
     /// Reads the next call of the log.
     #[tactic(auto, using(crate::proofs::LogLaws::reads, crate::proofs::SupplyLaws::draws_none))]
     fn next_exactly<I: Source>(&mut self, source: &mut I) -> Result<Option<Call>, LogFault>
-        ensures again { IfSome self.old.fault (λ fault. (result ≡ Err fault) × (self.new ≡ self.old) × (source.new ≡ source.old)) }
+        ensures again { IfSome self.old.fault
+            (λ fault. (result ≡ Err fault) × (self.new ≡ self.old) × (source.new ≡ source.old)) }
         ensures reads { IfNone self.old.fault (Reads self.old.passed
             (left_to self.old (I.left source.old)) (left_to self.new (I.left source.new)) result) }
         ensures moves { IfNone self.old.fault (Moves self.old.passed self.new result) }
         ensures bounded { self.new.passed.count ≤ most_entries }
-        ensures draws { Draws (supply_of I.Source self.old.ended source.old) (supply_of I.Source self.new.ended source.new) }
+        ensures draws { Draws (supply_of I.Source self.old.ended source.old)
+            (supply_of I.Source self.new.ended source.new) }
         ensures drained { IfNone self.old.fault (result ≡ Err LogFault.Source
             → left_to self.new (I.left source.new) ≡ I.left source.new) }
         ensures rose { IfNone self.old.fault (result ≡ Err LogFault.Source

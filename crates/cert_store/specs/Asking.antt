@@ -1,5 +1,6 @@
 -- What a provider's answers for a chain's signatures come to, as far as it answers, and what was asked of it.
-use Rattle.std.specs.Prelude.{◌≡◌, ◌≢◌, ⊤, ℕ, suc, ◌+◌, ◌-◌, ◌≤◌, Bool, true, false, List, [], ◌∷◌, take, count_by, is_some, Option, Some, None, if◌then◌else◌}
+use Rattle.std.specs.Prelude.{◌≡◌, ◌≢◌, ⊤, ℕ, suc, ◌+◌, ◌-◌, ◌≤◌, Bool, true, false, List, [], ◌∷◌, take, count_by}
+use Rattle.std.specs.Prelude.{is_some, Option, Some, None, if◌then◌else◌}
 use Rattle.std.specs.List.{slice_get}
 use Rattle.stir_outside.specs.Count.{Rose, last_count}
 use Rattle.x509_profile.specs.View.{CertView}

@@ -1,6 +1,7 @@
--- The chain map (this project's own rule): which file has the certificates of which x5u, the header parameter of RFC 7515,
--- section 4.1.5. A line is `X5U FILE`, and a map has at most 50,000 lines, those that are passed over too.
-use Rattle.std.specs.Prelude.{◌≡◌, true, ℕ, ◌<◌, ◌≤◌, ◌⊎◌, Bool, ◌&&◌, nat_le, List, [], ◌∷◌, length, map, filter, is_some, Option, Some, None, option_and_then, Result, Ok, Err, if◌then◌else◌}
+-- The chain map (this project's own rule): which file has the certificates of which x5u, the header parameter of RFC
+-- 7515, section 4.1.5. A line is `X5U FILE`, and a map has at most 50,000 lines, those that are passed over too.
+use Rattle.std.specs.Prelude.{◌≡◌, true, ℕ, ◌<◌, ◌≤◌, ◌⊎◌, Bool, ◌&&◌, nat_le, List, [], ◌∷◌, length, map, filter}
+use Rattle.std.specs.Prelude.{is_some, Option, Some, None, option_and_then, Result, Ok, Err, if◌then◌else◌}
 use Rattle.std.specs.List.{list_all}
 use Rattle.std.specs.Map.{lookup}
 use Rattle.std.specs.Str.{bytes_eq}
@@ -102,7 +103,8 @@ pub record HasMore (text : List ℕ) : Type 0 where
   pub read : first_rows text ≡ Ok rows
   pub more : 50000 < length (file_lines text)
 
--- the first line of the text that is bad has this number: one that is refused among the first 50,000, or the one after them
+-- the first line of the text that is bad has this number: one that is refused among the first 50,000, or the one after
+-- them
 abbrev pub FirstBad : List ℕ → ℕ → Type 0
 FirstBad text number = Refuses add_row (first_lines text) [] number ⊎ ((number ≡ 50001) × HasMore text)
 

@@ -1,6 +1,7 @@
--- Judged chains that are held by the x5u that names them (RFC 7515, section 4.1.5), the most recently used first, and what becomes of them
--- when one is used or put (this project's own rule).
-use Rattle.std.specs.Prelude.{◌≡◌, ℕ, ◌-◌, Bool, false, List, ◌∷◌, map, take, Vec, is_some, Option, Some, None, if◌then◌else◌}
+-- Judged chains that are held by the x5u that names them (RFC 7515, section 4.1.5), the most recently used first, and
+-- what becomes of them when one is used or put (this project's own rule).
+use Rattle.std.specs.Prelude.{◌≡◌, ℕ, ◌-◌, Bool, false, List, ◌∷◌, map, take, Vec, is_some, Option, Some, None}
+use Rattle.std.specs.Prelude.{if◌then◌else◌}
 use Rattle.std.specs.Map.{lookup, remove_entry}
 use Rattle.std.specs.Str.{bytes_eq}
 use Rattle.std.specs.Vec.{vec_items}
@@ -37,9 +38,11 @@ touched x5u entries = in_front x5u entries (chain_of x5u entries)
 
 -- ---- a chain is put
 
--- without the chain that was held for this x5u; if there was none and there are as many as there may be, without the last
+-- without the chain that was held for this x5u; if there was none and there are as many as there may be, without the
+-- last
 abbrev pub others_of : List ℕ → Holding → Chains
-others_of x5u holding = if is_some (chain_of x5u holding.entries) then remove_entry (bytes_eq x5u) holding.entries else take (holding.capacity - 1) holding.entries
+others_of x5u holding = if is_some (chain_of x5u holding.entries) then remove_entry (bytes_eq x5u) holding.entries
+    else take (holding.capacity - 1) holding.entries
 
 -- the chain goes first, before the others
 abbrev pub put_in : List ℕ → JudgedView → Holding → Chains
@@ -49,4 +52,5 @@ put_in x5u judged holding = (x5u, judged) ∷ others_of x5u holding
 
 -- the provider failed at no question of a chain that is held
 abbrev pub AreAnswered : Chains → Type 0
-AreAnswered entries = (x5u : List ℕ) (judged : JudgedView) → chain_of x5u entries ≡ Some judged → is_failed judged.asked ≡ false
+AreAnswered entries = (x5u : List ℕ) (judged : JudgedView) → chain_of x5u entries ≡ Some judged
+    → is_failed judged.asked ≡ false

@@ -12,7 +12,8 @@ use Rattle.cert_store.specs.declared.judged.Asked.TheVariants.{NotAsked, Failed}
 use Rattle.cert_store.specs.declared.judged.Period.{Period}
 use Rattle.cert_store.specs.Asking.{FailedAt, FailedWithCause, Keys, RoseBy, SoFar, asked_by, first_refused, questions}
 use Rattle.cert_store.specs.Links.{Link, chain_in, links_below, links_of, path_of}
-use Rattle.cert_store.specs.Rules.{Says, first_out, first_unauthorized, keys_of, periods_from, rule_11, rule_12, rule_14, rule_15}
+use Rattle.cert_store.specs.Rules.{Says, first_out, first_unauthorized, keys_of, periods_from, rule_11, rule_12}
+use Rattle.cert_store.specs.Rules.{rule_14, rule_15}
 
 pub record JudgedView : Type 0 where
   -- where rules 11, 12 and 14 are broken
@@ -64,7 +65,8 @@ judged_of anchors table says bytes = record {
   profile = rule_11 bytes;
   shape = rule_12 anchors bytes;
   authority = rule_14 anchors table bytes;
-  asked = asked_where (rule_11 bytes) (rule_12 anchors bytes) (rule_14 anchors table bytes) (rule_15 anchors says bytes);
+  asked =
+      asked_where (rule_11 bytes) (rule_12 anchors bytes) (rule_14 anchors table bytes) (rule_15 anchors says bytes);
   certificates = chain_in bytes;
   periods = periods_from anchors 1 (path_of anchors (chain_in bytes));
   keys = keys_of anchors (links_of anchors (chain_in bytes));
@@ -73,10 +75,26 @@ judged_of anchors table says bytes = record {
 -- ---- the same step by step
 
 abbrev pub outside_profile : ℕ → JudgedView
-outside_profile place = record { profile = Some place; shape = None; authority = None; asked = NotAsked; certificates = []; periods = []; keys = [] }
+outside_profile place = record {
+  profile = Some place;
+  shape = None;
+  authority = None;
+  asked = NotAsked;
+  certificates = [];
+  periods = [];
+  keys = [];
+}
 
 abbrev pub without_path : List CertView → ℕ → JudgedView
-without_path chain place = record { profile = None; shape = Some place; authority = None; asked = NotAsked; certificates = chain; periods = []; keys = [] }
+without_path chain place = record {
+  profile = None;
+  shape = Some place;
+  authority = None;
+  asked = NotAsked;
+  certificates = chain;
+  periods = [];
+  keys = [];
+}
 
 -- of a path with these issuers
 abbrev pub judged_path : List CertView → Table → Says → List CertView → List Link → JudgedView
@@ -91,7 +109,8 @@ judged_path anchors table says chain links = record {
 }
 
 abbrev pub judged_shape : List CertView → Table → Says → List CertView → Result (Option ℕ) PathFault → JudgedView
-judged_shape anchors table says chain (Ok anchor) = judged_path anchors table says chain (links_below chain (anchor_of chain anchors anchor))
+judged_shape anchors table says chain (Ok anchor) =
+    judged_path anchors table says chain (links_below chain (anchor_of chain anchors anchor))
 judged_shape anchors table says chain (Err fault) = without_path chain fault.place
 
 -- of certificates of the profile
@@ -118,12 +137,13 @@ pub record AllAnswered (truth judged : JudgedView) : Type 0 where
   pub whole : judged ≡ truth
   pub unfailed : (part : ℕ) → judged.asked ≢ Failed part
 
--- A provider whose count of faults stays as it was, below its last value, answered every question. So does one that never fails, whose
--- count is always 0.
+-- A provider whose count of faults stays as it was, below its last value, answered every question. So does one that
+-- never fails, whose count is always 0.
 abbrev pub QuietIs : JudgedView → ℕ → ℕ → JudgedView → Type 0
 QuietIs truth faults faults_now judged = faults_now ≡ faults → faults ≢ last_count → AllAnswered truth judged
 
--- As many questions were asked as there are certificates, up to the one at which asking stopped, that aren't themselves anchors.
+-- As many questions were asked as there are certificates, up to the one at which asking stopped, that aren't themselves
+-- anchors.
 pub record HasAsked (asks asks_now : ℕ) (judged : JudgedView) : Type 0 where
   pub exact : RoseBy (questions judged.keys judged.asked) asks asks_now
   pub most : asks_now ≤ asks + length judged.certificates
@@ -151,8 +171,9 @@ pub record HasAuthority (judged : JudgedView) : Type 0 where
   pub path : IsPath judged
   pub authority : judged.authority ≡ None
 
--- There are at most six certificates, and none if rule 11 is broken. A path has a leaf, and for each certificate the key of its issuer or
--- none; what is no path has no keys. With authority, the leaf has an authority list. Signatures were asked for only with authority.
+-- There are at most six certificates, and none if rule 11 is broken. A path has a leaf, and for each certificate the
+-- key of its issuer or none; what is no path has no keys. With authority, the leaf has an authority list. Signatures
+-- were asked for only with authority.
 pub record IsConsistent (judged : JudgedView) : Type 0 where
   pub few : length judged.certificates ≤ 6
   pub outside : judged.profile ≢ None → judged.certificates ≡ []

@@ -31,9 +31,9 @@ abbrev pub by_number : Result (List CertView) RefusedCertificate → Result (Lis
 by_number (Ok chain) = Ok chain
 by_number (Err refused) = Err refused.number
 
--- A chain file has at most 49,152 bytes, which is six certificates of 8,192 (this project's own rule). What is read are the
--- certificates that the bytes are; or 0 if there are more bytes, else the number of the first certificate that is refused or is a
--- seventh one.
+-- A chain file has at most 49,152 bytes, which is six certificates of 8,192 (this project's own rule). What is read are
+-- the certificates that the bytes are; or 0 if there are more bytes, else the number of the first certificate that is
+-- refused or is a seventh one.
 unfoldable pub read_file : List ℕ → Result (List CertView) ℕ
 read_file bytes = if nat_le (length bytes) 49152 then by_number (certificates_in bytes) else Err 0
 

@@ -1,5 +1,7 @@
--- The questions for the signatures of a chain that was judged, which are those of rule 15 (RFC 5280, section 6.1.3 (a)(1)).
-use Rattle.std.specs.Prelude.{◌≡◌, ◌≢◌, ⊤, ℕ, ◌-◌, ◌≤◌, Bool, List, [], ◌∷◌, ◌++◌, Option, Some, None, option_to_list, if◌then◌else◌}
+-- The questions for the signatures of a chain that was judged, which are those of rule 15 (RFC 5280, section 6.1.3
+-- (a)(1)).
+use Rattle.std.specs.Prelude.{◌≡◌, ◌≢◌, ⊤, ℕ, ◌-◌, ◌≤◌, Bool, List, [], ◌∷◌, ◌++◌, Option, Some, None, option_to_list}
+use Rattle.std.specs.Prelude.{if◌then◌else◌}
 use Rattle.std.specs.List.{slice_get}
 use Rattle.x509_profile.specs.View.{CertView}
 use Rattle.delegation.specs.Path.{Path, is_listed, issuer_of}
@@ -27,12 +29,14 @@ kept_question None key = None
 
 -- that of the certificate of this number, counted from 1
 abbrev pub question_at : JudgedView → ℕ → Option QuestionView
-question_at judged number = kept_question (slice_get judged.certificates (number - 1)) (slice_get judged.keys (number - 1))
+question_at judged number =
+    kept_question (slice_get judged.certificates (number - 1)) (slice_get judged.keys (number - 1))
 
 abbrev pub questions_from : List CertView → Keys → List QuestionView
 questions_from [] keys = []
 questions_from (certificate ∷ above) [] = []
-questions_from (certificate ∷ above) (key ∷ keys) = option_to_list (with_key certificate key) ++ questions_from above keys
+questions_from (certificate ∷ above) (key ∷ keys) =
+    option_to_list (with_key certificate key) ++ questions_from above keys
 
 -- those of the whole chain, from the leaf on
 unfoldable pub questions_of : JudgedView → List QuestionView
@@ -44,12 +48,13 @@ questions_of judged = questions_from judged.certificates judged.keys
 abbrev pub question_unless : Bool → CertView → CertView → Option QuestionView
 question_unless listed certificate issuer = if listed then None else Some (question_under certificate issuer)
 
--- If rule 12 is broken there is none. Of a path there is the one that rule 15 asks for each certificate that isn't itself an anchor.
+-- If rule 12 is broken there is none. Of a path there is the one that rule 15 asks for each certificate that isn't
+-- itself an anchor.
 pub record QuestionsAre (anchors : List CertView) (judged : JudgedView) : Type 0 where
   pub none : judged.shape ≢ None → (number : ℕ) → question_at judged number ≡ None
-  pub path : (anchor : Option ℕ) (number : ℕ) (c issuer : CertView) → Path judged.certificates anchors anchor → 1 ≤ number
-      → IsNumbered judged.certificates number c → issuer_of judged.certificates anchors anchor number ≡ Some issuer
-      → question_at judged number ≡ question_unless (is_listed c anchors) c issuer
+  pub path : (anchor : Option ℕ) (number : ℕ) (c issuer : CertView) → Path judged.certificates anchors anchor
+      → 1 ≤ number → IsNumbered judged.certificates number c → issuer_of judged.certificates anchors anchor number
+      ≡ Some issuer → question_at judged number ≡ question_unless (is_listed c anchors) c issuer
 
 -- ---- two providers
 

@@ -1,6 +1,8 @@
--- The rules on one chain, 11 to 15: each gives the number of the certificate at which it is broken, or None. A rule is asked of what
--- the rules before it leave: of bytes that aren't a chain, or of a chain that is no path, the later ones say nothing.
-use Rattle.std.specs.Prelude.{ℕ, suc, pos, int_le, ◌&&◌, Bool, List, [], ◌∷◌, is_some, Option, Some, None, Result, Ok, Err, if◌then◌else◌}
+-- The rules on one chain, 11 to 15: each gives the number of the certificate at which it is broken, or None. A rule is
+-- asked of what the rules before it leave: of bytes that aren't a chain, or of a chain that is no path, the later ones
+-- say nothing.
+use Rattle.std.specs.Prelude.{ℕ, suc, pos, int_le, ◌&&◌, Bool, List, [], ◌∷◌, is_some, Option, Some, None, Result, Ok}
+use Rattle.std.specs.Prelude.{Err, if◌then◌else◌}
 use Rattle.x509_profile.specs.View.{CertView}
 use Rattle.delegation.specs.declared.fault.PathFault.{PathFault}
 use Rattle.delegation.specs.Coverage.{Table}
@@ -39,8 +41,8 @@ period_of number c = record { number = number; not_before = c.not_before; not_af
 -- the seconds at which those are valid that aren't anchors, byte for byte; the first certificate has this number
 abbrev pub periods_from : List CertView → ℕ → List CertView → List Period
 periods_from anchors number [] = []
-periods_from anchors number (c ∷ above) =
-    if is_listed c anchors then periods_from anchors (suc number) above else period_of number c ∷ periods_from anchors (suc number) above
+periods_from anchors number (c ∷ above) = if is_listed c anchors then periods_from anchors (suc number) above
+    else period_of number c ∷ periods_from anchors (suc number) above
 
 abbrev pub is_in_date : ℕ → Period → Bool
 is_in_date moment period = int_le period.not_before (pos moment) && int_le (pos moment) period.not_after
@@ -62,12 +64,14 @@ first_outside table (link ∷ links) = if lies_within table link then first_outs
 
 abbrev pub first_unauthorized : Table → List Link → Option ℕ
 first_unauthorized table [] = None
-first_unauthorized table (leaf ∷ above) = if is_some leaf.certificate.list then first_outside table (leaf ∷ above) else Some 1
+first_unauthorized table (leaf ∷ above) =
+    if is_some leaf.certificate.list then first_outside table (leaf ∷ above) else Some 1
 
 abbrev pub rule_14 : List CertView → Table → List ℕ → Option ℕ
 rule_14 anchors table bytes = first_unauthorized table (links_of anchors (chain_in bytes))
 
--- ---- rule 15: each that isn't itself an anchor has a good signature under its issuer's key (RFC 5280, section 6.1.3 (a)(1))
+-- ---- rule 15: each that isn't itself an anchor has a good signature under its issuer's key (RFC 5280, section 6.1.3
+-- (a)(1))
 
 -- of a key, a digest and a signature, whether the signature is good
 abbrev pub Says : Type 0

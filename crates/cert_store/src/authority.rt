@@ -29,8 +29,8 @@ pub(crate) fn first_unauthorized(
     }
 }
 
-/// The first certificate of a path whose authority doesn't lie within its issuer's. A last certificate that is itself an anchor
-/// is its own issuer, and lies within itself.
+/// The first certificate of a path whose authority doesn't lie within its issuer's. A last certificate that is itself
+/// an anchor is its own issuer, and lies within itself.
 fn first_outside(
     alloc: Global,
     chain: &[Certificate],

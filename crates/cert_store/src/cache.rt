@@ -12,11 +12,11 @@ use std::alloc::Global;
 use std::marker::Model;
 use std::num::NonZeroUsize;
 
-/// Judged chains by the x5u that names them (RFC 7515, section 4.1.5), kept from call to call. If there are too many, the least recently
-/// used one leaves (this project's own rule).
+/// Judged chains by the x5u that names them (RFC 7515, section 4.1.5), kept from call to call. If there are too many,
+/// the least recently used one leaves (this project's own rule).
 ///
-/// A contract sees the chains with their x5us, the most recently used first, and how many there may be. The provider answered every
-/// question of each of them.
+/// A contract sees the chains with their x5us, the most recently used first, and how many there may be. The provider
+/// answered every question of each of them.
 #[derive(Drop)]
 pub struct Cache {
     held: LruCache<Vec<u8>, Judged>,
@@ -52,7 +52,8 @@ impl Cache {
         self.held.peek(x5u)
     }
 
-    /// Makes the chain that is held for the x5u the most recently used one; false exactly if none is held, and then nothing changes.
+    /// Makes the chain that is held for the x5u the most recently used one; false exactly if none is held, and then
+    /// nothing changes.
     pub fn touch(&mut self, x5u: &[u8]) -> bool
         ensures held { result ≡ is_some (chain_of x5u.now self.old.entries) }
         ensures order { self.new ≡ record self.old { entries = touched x5u.now self.old.entries } }
@@ -60,9 +61,10 @@ impl Cache {
         self.held.promote(x5u)
     }
 
-    /// Holds a chain for the x5u as the most recently used one, in place of the one that was held for it. If none was and the cache is full, the
-    /// least recently used chain leaves. The provider must not have failed at a question of the chain: [`Judged::asked`] says whether it
-    /// did. `Memory` comes only if memory ran out, which it can't if a chain was held for the x5u; then nothing changes.
+    /// Holds a chain for the x5u as the most recently used one, in place of the one that was held for it. If none was
+    /// and the cache is full, the least recently used chain leaves. The provider must not have failed at a question of
+    /// the chain: [`Judged::asked`] says whether it did. `Memory` comes only if memory ran out, which it can't if a
+    /// chain was held for the x5u; then nothing changes.
     pub fn put(&mut self, x5u: Vec<u8>, judged: Judged) -> Result<(), Memory>
         requires answered { is_failed judged.asked ≡ false }
         ensures put { OnOk result (self.new ≡ record self.old { entries = put_in x5u.items judged self.old }) }
@@ -75,8 +77,8 @@ impl Cache {
         }
     }
 
-    /// What holds of every cache, for callers. The provider answered every question of the chains, each x5u has one, and there are no more of
-    /// them than there may be. It does nothing when it runs.
+    /// What holds of every cache, for callers. The provider answered every question of the chains, each x5u has one,
+    /// and there are no more of them than there may be. It does nothing when it runs.
     pub fn answered(&self)
         ensures answered { AreAnswered self.now.entries }
         ensures once { IsOnce (names self.now.entries) }

@@ -1,7 +1,8 @@
 //! A chain judged by the rules on it.
 ghost use Rattle.std.specs.Prelude.{◌≡◌, ◌≤◌, ℕ, vec_len, IfOk};
 ghost use Rattle.delegation.specs.Path.{Path, anchor_of};
-ghost use Rattle.cert_store.specs.Judged.{Asks, HasCount, IsJudged, QuietIs, judged_chain, judged_of, judged_path, outside_profile, without_path};
+ghost use Rattle.cert_store.specs.Judged.{Asks, HasCount, IsJudged, QuietIs, judged_chain, judged_of, judged_path};
+ghost use Rattle.cert_store.specs.Judged.{outside_profile, without_path};
 ghost use Rattle.cert_store.specs.Links.{links_below};
 ghost use Rattle.cert_store.specs.Questions.{QuestionsAre};
 ghost use Rattle.cert_store.specs.Words.{AuthorityIs, DatesAre, KeysAre, PathIs, ProfileIs, SignaturesAre, UnaskedIs};
@@ -20,12 +21,12 @@ use x509_profile::{CertChainFault, Certificate, MOST_CHAIN_BYTES, read_chain};
 
 /// What the rules on a chain say of these bytes, which are to be certificates one after another, the leaf's first.
 ///
-/// Rule 11: they are at most 49,152, and at most six certificates of the profile. Rule 12: they are a path up to an anchor (RFC
-/// 5280 section 6.1). Rule 14: the leaf has an authority list, and the authority of each lies within its issuer's (RFC 9060). If
-/// these hold, the provider is asked for the signatures, once each, from the leaf's on up to the first that it doesn't confirm
-/// (rule 15). It isn't asked for those of certificates that are themselves anchors, byte for byte. Rule 13, on dates, is asked
-/// of the answer. `Memory` comes if memory runs out for the certificates, for what is kept of them or for comparing their
-/// authorities. Then no signature was asked for.
+/// Rule 11: they are at most 49,152, and at most six certificates of the profile. Rule 12: they are a path up to an
+/// anchor (RFC 5280 section 6.1). Rule 14: the leaf has an authority list, and the authority of each lies within its
+/// issuer's (RFC 9060). If these hold, the provider is asked for the signatures, once each, from the leaf's on up to
+/// the first that it doesn't confirm (rule 15). It isn't asked for those of certificates that are themselves anchors,
+/// byte for byte. Rule 13, on dates, is asked of the answer. `Memory` comes if memory runs out for the certificates,
+/// for what is kept of them or for comparing their authorities. Then no signature was asked for.
 pub fn judge_chain<P: Provider>(
     alloc: Global,
     bytes: &[u8],
@@ -34,7 +35,8 @@ pub fn judge_chain<P: Provider>(
     provider: &mut P,
 ) -> Result<Judged, Memory>
     // What the rules say, as far as the provider answered. A question failed only if its count of faults rose.
-    ensures exact { IfOk result (IsJudged (judged_of anchors.now table.now (P.says provider.old) bytes.now) (P.faults provider.old) (P.faults provider.new)) }
+    ensures exact { IfOk result (IsJudged (judged_of anchors.now table.now (P.says provider.old) bytes.now)
+        (P.faults provider.old) (P.faults provider.new)) }
 
     // The same in the rules' own words.
     ensures profile { IfOk result (ProfileIs bytes.now) }
@@ -44,7 +46,8 @@ pub fn judge_chain<P: Provider>(
     ensures signatures { IfOk result (SignaturesAre anchors.now (P.says provider.old)) }
 
     // If no fault was counted, the answer is all that the rules say.
-    ensures quiet { IfOk result (QuietIs (judged_of anchors.now table.now (P.says provider.old) bytes.now) (P.faults provider.old) (P.faults provider.new)) }
+    ensures quiet { IfOk result (QuietIs (judged_of anchors.now table.now (P.says provider.old) bytes.now)
+        (P.faults provider.old) (P.faults provider.new)) }
 
     // When signatures were asked for, of which certificates, how often, and what that changed of the provider.
     ensures unasked { IfOk result UnaskedIs }
@@ -67,7 +70,8 @@ fn judge_bytes<P: Provider>(
     table: &CodeTable,
     provider: &mut P,
 ) -> Result<Judged, Memory>
-    ensures exact { IfOk result (IsJudged (judged_of anchors.now table.now (P.says provider.old) bytes.now) (P.faults provider.old) (P.faults provider.new)) }
+    ensures exact { IfOk result (IsJudged (judged_of anchors.now table.now (P.says provider.old) bytes.now)
+        (P.faults provider.old) (P.faults provider.new)) }
     ensures asks { Asks (P.asks provider.old) (P.asks provider.new) result }
     ensures faults { HasCount (P.faults provider.old) (P.faults provider.new) result }
     ensures same_says { P.says provider.new ≡ P.says provider.old }
@@ -92,7 +96,8 @@ fn judge_certificates<P: Provider>(
     provider: &mut P,
 ) -> Result<Judged, Memory>
     requires { vec_len certificates ≤ 6 }
-    ensures exact { IfOk result (IsJudged (judged_chain anchors.now table.now (P.says provider.old) certificates.items) (P.faults provider.old) (P.faults provider.new)) }
+    ensures exact { IfOk result (IsJudged (judged_chain anchors.now table.now (P.says provider.old) certificates.items)
+        (P.faults provider.old) (P.faults provider.new)) }
     ensures asks { Asks (P.asks provider.old) (P.asks provider.new) result }
     ensures faults { HasCount (P.faults provider.old) (P.faults provider.new) result }
     ensures same_says { P.says provider.new ≡ P.says provider.old }
@@ -116,7 +121,8 @@ fn judge_path<P: Provider>(
     requires few { vec_len certificates ≤ 6 }
     requires path { Path certificates.items anchors.now anchor }
     ensures exact { IfOk result (IsJudged (judged_path anchors.now table.now (P.says provider.old) certificates.items
-        (links_below certificates.items (anchor_of certificates.items anchors.now anchor))) (P.faults provider.old) (P.faults provider.new)) }
+        (links_below certificates.items (anchor_of certificates.items anchors.now anchor))) (P.faults provider.old)
+        (P.faults provider.new)) }
     ensures asks { Asks (P.asks provider.old) (P.asks provider.new) result }
     ensures faults { HasCount (P.faults provider.old) (P.faults provider.new) result }
     ensures same_says { P.says provider.new ≡ P.says provider.old }

@@ -14,7 +14,8 @@ use x509_profile::Certificate;
 /// How the signatures of a chain were answered for, the leaf's first.
 #[derive(Clone, Copy, Debug, PartialEq, Eq)]
 pub enum Asked {
-    /// No signature was asked for: the chain isn't in the profile, is no path, or gives authority that its issuer lacks.
+    /// No signature was asked for: the chain isn't in the profile, is no path, or gives authority that its issuer
+    /// lacks.
     NotAsked,
     /// Every signature that was asked for is good.
     Yes,
@@ -30,8 +31,8 @@ pub enum Asked {
     },
 }
 
-/// A question for the signature of a certificate of a chain. It asks whether it is one over the digest of what was signed, under the
-/// key of the certificate's issuer (RFC 5280, section 6.1.3 (a)(1)).
+/// A question for the signature of a certificate of a chain. It asks whether it is one over the digest of what was
+/// signed, under the key of the certificate's issuer (RFC 5280, section 6.1.3 (a)(1)).
 #[derive(Clone, Copy)]
 pub struct Question<'a> {
     /// The point of the issuer's key: the byte 04, and 32 bytes each of x and y (RFC 5480, section 2.2).
@@ -64,8 +65,8 @@ impl Period {
 /// A chain as the rules on it judge it: rules 11 to 15, except for the moment of a call. Rule 13 is asked at that
 /// moment, by [`Judged::out_of_date`].
 ///
-/// Certificates count from 1, the leaf's. A contract sees the certificates, the seconds at which those are valid that aren't
-/// trust anchors, the keys of their issuers, and what the rules gave.
+/// Certificates count from 1, the leaf's. A contract sees the certificates, the seconds at which those are valid that
+/// aren't trust anchors, the keys of their issuers, and what the rules gave.
 #[derive(Drop)]
 pub struct Judged {
     pub(crate) certificates: Vec<Certificate>,
@@ -82,38 +83,40 @@ impl Model for Judged {
 
     ghost Value = { JudgedView };
 
-    ghost view = { λ j. view_of j.profile j.shape j.authority j.asked j.certificates.items j.periods.items j.keys.items };
+    ghost view = { λ j.
+        view_of j.profile j.shape j.authority j.asked j.certificates.items j.periods.items j.keys.items };
 
-    ghost invariant = { λ j. IsConsistent (view_of j.profile j.shape j.authority j.asked j.certificates.items j.periods.items j.keys.items) };
+    ghost invariant = { λ j. IsConsistent (view_of j.profile j.shape j.authority j.asked j.certificates.items
+        j.periods.items j.keys.items) };
 }
 
 impl Judged {
-    /// Where rule 11 is broken: 0 if the bytes are more than 49,152, else the first certificate that isn't one of the profile, or
-    /// the seventh. None if the bytes are at most six certificates of the profile.
+    /// Where rule 11 is broken: 0 if the bytes are more than 49,152, else the first certificate that isn't one of the
+    /// profile, or the seventh. None if the bytes are at most six certificates of the profile.
     pub fn profile(&self) -> Option<u8>
         ensures { result ≡ self.now.profile }
     {
         self.profile
     }
 
-    /// Where rule 12 is broken: the place at which the certificates are no path up to a trust anchor (RFC 5280, section 6.1), 0
-    /// if there are no certificates. None if they are one, or rule 11 is broken.
+    /// Where rule 12 is broken: the place at which the certificates are no path up to a trust anchor (RFC 5280, section
+    /// 6.1), 0 if there are no certificates. None if they are one, or rule 11 is broken.
     pub fn shape(&self) -> Option<u8>
         ensures { result ≡ self.now.shape }
     {
         self.shape
     }
 
-    /// Where rule 14 is broken: the first certificate whose authority doesn't lie within its issuer's (RFC 9060), or the leaf
-    /// if it has no authority list. None if there is none, or rule 11 or 12 is broken.
+    /// Where rule 14 is broken: the first certificate whose authority doesn't lie within its issuer's (RFC 9060), or
+    /// the leaf if it has no authority list. None if there is none, or rule 11 or 12 is broken.
     pub fn authority(&self) -> Option<u8>
         ensures { result ≡ self.now.authority }
     {
         self.authority
     }
 
-    /// How the signatures were answered for, which is what rule 15 asks: something else than `NotAsked` only if rules 11, 12
-    /// and 14 hold.
+    /// How the signatures were answered for, which is what rule 15 asks: something else than `NotAsked` only if rules
+    /// 11, 12 and 14 hold.
     pub fn asked(&self) -> Asked
         ensures exact { result ≡ self.now.asked }
         ensures consistent { IsConsistent self.now }
@@ -121,8 +124,8 @@ impl Judged {
         self.asked
     }
 
-    /// Where rule 13 is broken at this moment, in Unix seconds: the first certificate that isn't a trust anchor and isn't valid
-    /// then (RFC 5280, section 6.1.3). None if there is none, or rule 11 or 12 is broken.
+    /// Where rule 13 is broken at this moment, in Unix seconds: the first certificate that isn't a trust anchor and
+    /// isn't valid then (RFC 5280, section 6.1.3). None if there is none, or rule 11 or 12 is broken.
     pub fn out_of_date(&self, moment: u64) -> Option<u8>
         ensures { result ≡ out_of_date self.now moment }
     {
@@ -147,8 +150,8 @@ impl Judged {
         self.certificates.len() as u8
     }
 
-    /// What certificate `i` demands of the claims of a PASSporT that is judged under it, if it demands anything: what rule 19 asks. It is
-    /// one of the chain itself: of the trust anchor above the last certificate nothing is asked.
+    /// What certificate `i` demands of the claims of a PASSporT that is judged under it, if it demands anything: what
+    /// rule 19 asks. It is one of the chain itself: of the trust anchor above the last certificate nothing is asked.
     pub fn constraints(&self, i: u8) -> Option<&Constraints>
         requires some { 1 ≤ i }
         requires within { i ≤ length self.now.certificates }
@@ -157,8 +160,9 @@ impl Judged {
         self.certificates[usize::from(i - 1)].constraints()
     }
 
-    /// The question that rule 15 asks for the signature of certificate `i`. None exactly if rule 12 is broken or the certificate is
-    /// itself a trust anchor, byte for byte. [`crate::judge_chain`] says this of the chains that it judges.
+    /// The question that rule 15 asks for the signature of certificate `i`. None exactly if rule 12 is broken or the
+    /// certificate is itself a trust anchor, byte for byte. [`crate::judge_chain`] says this of the chains that it
+    /// judges.
     pub fn question(&self, i: u8) -> Option<Question<'_>>
         requires some { 1 ≤ i }
         requires within { i ≤ length self.now.certificates }

@@ -1,4 +1,5 @@
-//! Certificate chains by their x5u, the header parameter that says where the certificates of a token are (RFC 7515, section 4.1.5).
+//! Certificate chains by their x5u, the header parameter that says where the certificates of a token are (RFC 7515,
+//! section 4.1.5).
 //!
 //! # The way through
 //!
@@ -8,10 +9,10 @@
 //! ```
 //!
 //! - A [`ChainMap`] says which file has the certificates of which x5u. It is a text file (this project's own format).
-//! - [`judge_chain`] judges the bytes of such a file once: all that depends on the bytes, the trust anchors, the code table and the provider alone.
-//!   These are the rules 11, 12, 14 and 15 of the report.
-//! - The [`Judged`] chain is asked where a rule is broken, and by [`Judged::out_of_date`] for rule 13 at the moment of a call. [`Judged::question`]
-//!   gives what the provider is asked, a [`Question`] a certificate.
+//! - [`judge_chain`] judges the bytes of such a file once: all that depends on the bytes, the trust anchors, the code
+//!   table and the provider alone. These are the rules 11, 12, 14 and 15 of the report.
+//! - The [`Judged`] chain is asked where a rule is broken, and by [`Judged::out_of_date`] for rule 13 at the moment of
+//!   a call. [`Judged::question`] gives what the provider is asked, a [`Question`] a certificate.
 //! - A [`Cache`] keeps judged chains, the most recently used first.
 //! - A [`World`] is what calls are judged by: chain map, anchors and code table.
 //!
@@ -23,14 +24,15 @@
 //!
 //! # What it isn't
 //!
-//! No file is fetched: the shelf has them (`stirctl fetch` gets them beforehand). No signature is verified: the provider answers. Which PASSporT
-//! a chain has to vouch for is asked in `verify_rules`.
+//! No file is fetched: the shelf has them (`stirctl fetch` gets them beforehand). No signature is verified: the
+//! provider answers. Which PASSporT a chain has to vouch for is asked in `verify_rules`.
 //!
 //! # What is proved
 //!
-//! What is judged is a function of bytes, anchors, table and provider, and the same is said in each rule's own words. The provider is asked once for
-//! each certificate that isn't an anchor, and only if rules 11, 12 and 14 hold. A chain that is held stays until as many others were used as the
-//! cache may hold. `docs/dev/PROVED.md`, "Certificates", has the clauses.
+//! What is judged is a function of bytes, anchors, table and provider, and the same is said in each rule's own words.
+//! The provider is asked once for each certificate that isn't an anchor, and only if rules 11, 12 and 14 hold. A chain
+//! that is held stays until as many others were used as the cache may hold. `docs/dev/PROVED.md`, "Certificates", has
+//! the clauses.
 //!
 //! # Cases
 //!

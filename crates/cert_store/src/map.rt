@@ -67,10 +67,10 @@ impl Model for ChainMap {
 impl ChainMap {
     /// Reads a chain map.
     ///
-    /// Each line is `X5U FILE`, two words parted by exactly one space. Empty lines and lines that begin with `;` are passed
-    /// over and counted. The x5u is 1 or more bytes of visible ASCII without `"`, `<`, `>` and backslash, and the file's
-    /// name 1 to 255 bytes of visible ASCII (this project's own rule). Of two lines with one x5u the second is bad, and so
-    /// is a 50,001st line, whatever it says. The fault names the first bad line.
+    /// Each line is `X5U FILE`, two words parted by exactly one space. Empty lines and lines that begin with `;` are
+    /// passed over and counted. The x5u is 1 or more bytes of visible ASCII without `"`, `<`, `>` and backslash, and
+    /// the file's name 1 to 255 bytes of visible ASCII (this project's own rule). Of two lines with one x5u the second
+    /// is bad, and so is a 50,001st line, whatever it says. The fault names the first bad line.
     pub fn read(alloc: Global, text: &[u8]) -> Result<ChainMap, MapFault>
         requires { length text.now < 4294967295 }
         ensures map { IfOk result (MapOf text.now) }

@@ -44,8 +44,8 @@ pub(crate) fn issuer_at<'a>(
     }
 }
 
-/// The keys under which the signatures of certificates are asked for: that of the issuer, and none for a certificate that is
-/// itself a trust anchor.
+/// The keys under which the signatures of certificates are asked for: that of the issuer, and none for a certificate
+/// that is itself a trust anchor.
 pub(crate) fn issuer_keys(
     alloc: Global,
     chain: &[Certificate],

@@ -7,8 +7,8 @@ use crate::path::Key;
 use stir_outside::{Failed, Provider};
 use x509_profile::Certificate;
 
-/// Asks the provider for the signature of each certificate of a path that isn't an anchor, once and under its issuer's key. It
-/// goes from the leaf on up to the first that isn't answered Yes.
+/// Asks the provider for the signature of each certificate of a path that isn't an anchor, once and under its issuer's
+/// key. It goes from the leaf on up to the first that isn't answered Yes.
 #[tactic(auto, using(crate::proofs::AskSteps::passed_over, crate::proofs::AskSteps::confirmed, crate::proofs::AskSteps::refused, crate::proofs::AskSteps::left_open, crate::proofs::AskSteps::was_asked, crate::proofs::AskSteps::counted_over, crate::proofs::AskSteps::counted, crate::proofs::AskSteps::rose_none))]
 pub(crate) fn ask<P: Provider>(
     chain: &[Certificate],

@@ -1,4 +1,5 @@
--- DER elements one after another, as far as they can be read, and what is made of the contents of those of one tag (X.690, section 8.1).
+-- DER elements one after another, as far as they can be read, and what is made of the contents of those of one tag
+-- (X.690, section 8.1).
 use Rattle.std.specs.Prelude.{ℕ, zero, suc, ◌==◌, List, [], ◌∷◌, ◌++◌, length, Result, Ok, Err, if◌then◌else◌}
 use Rattle.der_reader.specs.Elem.{Element}
 use Rattle.der_reader.specs.Next.{next_at}

@@ -1,5 +1,7 @@
--- Where it is told which certificates are revoked: the CRL distribution points of a certificate (RFC 5280, section 4.2.1.13).
-use Rattle.std.specs.Prelude.{ℕ, ◌==◌, Bool, List, [], ◌∷◌, ◌++◌, length, Option, Some, None, Result, Ok, Err, if◌then◌else◌}
+-- Where it is told which certificates are revoked: the CRL distribution points of a certificate (RFC 5280, section
+-- 4.2.1.13).
+use Rattle.std.specs.Prelude.{ℕ, ◌==◌, Bool, List, [], ◌∷◌, ◌++◌, length, Option, Some, None, Result, Ok, Err}
+use Rattle.std.specs.Prelude.{if◌then◌else◌}
 use Rattle.std.specs.Borrow.{Bor}
 use Rattle.std.specs.Str.{bytes_eq}
 use Rattle.lists.specs.Steps.{◌>>=◌}
@@ -50,12 +52,13 @@ made_by make.Same = λ content. content
 made_by make.Points = points_of
 made_by make.Line = uri_line
 
--- the content of the extension: the certificate and its signed part are SEQUENCEs, and in it [3] holds the SEQUENCE of extensions
+-- the content of the extension: the certificate and its signed part are SEQUENCEs, and in it [3] holds the SEQUENCE of
+-- extensions
 abbrev pub points_in : List ℕ → List ℕ
 points_in whole = within 0x30 points_of (along (0x30 ∷ 0x30 ∷ 0xA3 ∷ 0x30 ∷ []) whole)
 
--- the URIs in it: a SEQUENCE of distribution points, each a SEQUENCE that may have a name [0]; that may be a full one [0], of general names, and a URI is
--- one of those, [6] (section 4.2.1.6)
+-- the URIs in it: a SEQUENCE of distribution points, each a SEQUENCE that may have a name [0]; that may be a full one
+-- [0], of general names, and a URI is one of those, [6] (section 4.2.1.6)
 abbrev pub uris_in : List ℕ → List ℕ
 uris_in points = within 0x86 uri_line (along (0x30 ∷ 0x30 ∷ 0xA0 ∷ 0xA0 ∷ []) points)
 

@@ -1,6 +1,7 @@
 //! The lines of certificates.
 ghost use Rattle.std.specs.Prelude.{◌≡◌, ◌≤◌, length, IfOk, Some, string_bytes};
-ghost use Rattle.chain_lines.specs.Show.{authority_lines, certificate_lines, entry_line, key_lines, number_or_none, show, usage_or_none, validity_lines, yes_or_no};
+ghost use Rattle.chain_lines.specs.Show.{authority_lines, certificate_lines, entry_line, key_lines, number_or_none};
+ghost use Rattle.chain_lines.specs.Show.{show, usage_or_none, validity_lines, yes_or_no};
 
 use std::alloc::{AllocError, Global};
 use tn_auth_list::Entry;

@@ -4,7 +4,8 @@ ghost use Rattle.std.specs.Str.{bytes_eq};
 ghost use Rattle.der_reader.specs.Elem.{element_of};
 ghost use Rattle.der_reader.specs.Next.{sole_view};
 ghost use Rattle.chain_lines.specs.Elements.{made_of, within};
-ghost use Rattle.chain_lines.specs.Revocation.{bytes_view, made_by, points_of, points_oid, points_read, uri_line, value_at};
+ghost use Rattle.chain_lines.specs.Revocation.{bytes_view, made_by, points_of, points_oid, points_read, uri_line};
+ghost use Rattle.chain_lines.specs.Revocation.{value_at};
 
 use der_reader::{Der, DerFault};
 use std::alloc::{AllocError, Global};
@@ -27,7 +28,8 @@ pub(crate) enum Make {
     Line,
 }
 
-/// What is made of the contents of the elements of this tag, one after another, as far as elements can be read. `AllocError` is the only error.
+/// What is made of the contents of the elements of this tag, one after another, as far as elements can be read.
+/// `AllocError` is the only error.
 #[tactic(auto, using(crate::proofs::ElementLaws::starts))]
 pub(crate) fn within(
     alloc: Global,

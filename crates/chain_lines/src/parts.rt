@@ -31,8 +31,8 @@ pub enum Part {
     Revocation,
 }
 
-/// The bytes of a part of a certificate. `None` if it has no authority list, or no CRL distribution points; every certificate has the other parts.
-/// `AllocError` is the only error.
+/// The bytes of a part of a certificate. `None` if it has no authority list, or no CRL distribution points; every
+/// certificate has the other parts. `AllocError` is the only error.
 pub fn certificate_part(
     alloc: Global,
     certificate: &Certificate,

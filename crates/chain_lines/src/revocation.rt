@@ -19,8 +19,8 @@ const NAME: u8 = 0xA0;
 /// The tag of a URI among general names, [6].
 const URI: u8 = 0x86;
 
-/// The URIs of the CRL distribution points of a certificate (RFC 5280, section 4.2.1.13), each with an LF. `None` if it has no such extension. `AllocError`
-/// is the only error.
+/// The URIs of the CRL distribution points of a certificate (RFC 5280, section 4.2.1.13), each with an LF. `None` if it
+/// has no such extension. `AllocError` is the only error.
 pub(crate) fn revocation_of(alloc: Global, whole: &[u8]) -> Result<Option<Vec<u8>>, AllocError>
     ensures { IfOk result (λ uris. option_map (λ v. v.items) uris ≡ revocation_of whole.now) }
 {

@@ -1,5 +1,5 @@
--- Constraints on the claims of PASSporTs (after RFC 8226, section 8; form and meaning are this project's own): which claims must be there, and which
--- values some may have.
+-- Constraints on the claims of PASSporTs (after RFC 8226, section 8; form and meaning are this project's own): which
+-- claims must be there, and which values some may have.
 use Rattle.std.specs.Prelude.{◌≡◌, ◌⊎◌, ℕ, ◌≤◌, Bool, true, ◌&&◌, nat_le, List, [], map, length, drop, get_or, Vec}
 use Rattle.std.specs.List.{list_all}
 use Rattle.std.specs.Str.{is_utf8}

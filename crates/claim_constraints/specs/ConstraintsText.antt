@@ -1,4 +1,5 @@
--- The one DER text of constraints (after RFC 8226, section 8, in the encoding of X.690, section 10; the form is this project's own).
+-- The one DER text of constraints (after RFC 8226, section 8, in the encoding of X.690, section 10; the form is this
+-- project's own).
 use Rattle.std.specs.Prelude.{◌≡◌, ℕ, ◌<◌, List, [], ◌∷◌, ◌++◌, length}
 use Rattle.der_reader.specs.Elem.{element_text}
 use Rattle.der_reader.specs.Tags.{ia5_string_tag, sequence_tag}
@@ -29,12 +30,14 @@ values_text values = elements utf8_string_tag itself values
 
 -- in the SEQUENCE of an entry: the claim's name, and the SEQUENCE of its values
 abbrev pub permit_content : PermitView → List ℕ
-permit_content permit = element_text ia5_string_tag permit.claim ++ element_text sequence_tag (values_text permit.values)
+permit_content permit =
+    element_text ia5_string_tag permit.claim ++ element_text sequence_tag (values_text permit.values)
 
 -- a part is a SEQUENCE in an element of the part's tag; one of nothing is left out
 abbrev pub part_text : {X : Type 0} → ℕ → ℕ → (X → List ℕ) → List X → List ℕ
 part_text mark tag content [] = []
-part_text mark tag content (x ∷ others) = element_text mark (element_text sequence_tag (elements tag content (x ∷ others)))
+part_text mark tag content (x ∷ others) =
+    element_text mark (element_text sequence_tag (elements tag content (x ∷ others)))
 
 -- mustInclude [0] and permittedValues [1]
 abbrev pub must_part : List (List ℕ) → List ℕ

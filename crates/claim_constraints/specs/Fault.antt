@@ -1,4 +1,5 @@
--- Why bytes are no constraints, by kind and place: this project's own rule. A place counts from the constraints' first byte.
+-- Why bytes are no constraints, by kind and place: this project's own rule. A place counts from the constraints' first
+-- byte.
 use Rattle.std.specs.Prelude.{Option, Some, None, Result}
 use Rattle.lists.specs.Given as given
 use Rattle.der_reader.specs.Part.{at_kind}

@@ -14,10 +14,12 @@ HasMember payload name value = get name payload ≡ Some value
 abbrev pub IsTextOf : List (List ℕ) → Data → Type 0
 IsTextOf values value = (text : List ℕ) × (value ≡ string text) × Contains values text
 
--- Each claim that must be there is a member of the payload, and each claim of which some values are permitted has one of them, if it is a member.
+-- Each claim that must be there is a member of the payload, and each claim of which some values are permitted has one
+-- of them, if it is a member.
 pub record Meets (c : ConstraintsView) (payload : Data) : Type 0 where
   pub must : (name : List ℕ) → Contains c.must name → (value : Data) × HasMember payload name value
-  pub permits : (permit : PermitView) (value : Data) → Contains c.permits permit → HasMember payload permit.claim value → IsTextOf permit.values value
+  pub permits : (permit : PermitView) (value : Data) → Contains c.permits permit → HasMember payload permit.claim value
+      → IsTextOf permit.values value
 
 -- ---- the same as a test
 

@@ -28,7 +28,8 @@ text_with form texts item = text_of form item >>= λ text. Ok (texts ++ text ∷
 
 -- the content of a SEQUENCE, which isn't empty
 abbrev pub filled : ItemView → Result PartView Fault
-filled sequence = if nat_le 1 (length sequence.content.left) then Ok sequence.content else Err (at_kind 2 sequence.place)
+filled sequence = if nat_le 1 (length sequence.content.left) then Ok sequence.content
+    else Err (at_kind 2 sequence.place)
 
 abbrev pub part_view : Result Part Fault → Result PartView Fault
 part_view (Ok part) = Ok (part_of part)
@@ -63,7 +64,8 @@ begins tag [] = false
 begins tag (first ∷ rest) = first == tag
 
 -- the element with this tag around one SEQUENCE of such elements, and what comes after it
-unfoldable pub marked_in : {X : Type 0} → ℕ → (List X → ItemView → Result (List X) Fault) → PartView → Result (List X × PartView) Fault
+unfoldable pub marked_in : {X : Type 0} → ℕ → (List X → ItemView → Result (List X) Fault) → PartView
+    → Result (List X × PartView) Fault
 marked_in tag step part = do
   marked ← element_at tag part
   sequence ← element_at sequence_tag marked.content
@@ -71,7 +73,8 @@ marked_in tag step part = do
   end_at sequence.behind (each, marked.behind)
 
 -- the same, if it is there
-unfoldable pub optional_in : {X : Type 0} → ℕ → (List X → ItemView → Result (List X) Fault) → PartView → Result (List X × PartView) Fault
+unfoldable pub optional_in : {X : Type 0} → ℕ → (List X → ItemView → Result (List X) Fault) → PartView
+    → Result (List X × PartView) Fault
 optional_in tag step part = if begins tag part.left then marked_in tag step part else Ok ([], part)
 
 -- the parts, of which the SEQUENCE isn't empty

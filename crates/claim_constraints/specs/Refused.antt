@@ -1,5 +1,5 @@
--- Bytes that are no constraints, and their first fault: what is wrong with the first of their elements with which anything is, of a kind of
--- `ConstraintFault`. This is this project's own rule.
+-- Bytes that are no constraints, and their first fault: what is wrong with the first of their elements with which
+-- anything is, of a kind of `ConstraintFault`. This is this project's own rule.
 use Rattle.std.specs.Prelude.{◌≡◌, ◌⊎◌, ⊤, ℕ, ◌+◌, ◌≤◌, true, List, ◌∷◌, ◌++◌, length, Result, Ok, Err}
 use Rattle.der_reader.specs.declared.part.Fault.{Fault}
 use Rattle.der_reader.specs.Broken.{Behind, First, IsTagged, LeftOver, Unless, Within}
@@ -54,12 +54,14 @@ BeginsBy tag bytes = (rest : List ℕ) × (bytes ≡ tag ∷ rest)
 abbrev pub Nothing : ItemView → Fault → Type 0
 Nothing item fault = ⊥
 
--- a name: an IA5String, else kind 1, of 1 to 64 visible bytes, else kind 3; or a value: a UTF8String, else kind 1, of UTF-8, else kind 4
+-- a name: an IA5String, else kind 1, of 1 to 64 visible bytes, else kind 3; or a value: a UTF8String, else kind 1, of
+-- UTF-8, else kind 4
 abbrev pub WrongText : Form → ItemView → Fault → Type 0
 WrongText form = Unless (IsTagged (tag_of form)) 1 (Unless (IsOfForm form) (kind_of form) Nothing)
 
 -- after some that are right more bytes follow, and their first element is wrong
-pub record WrongAfter {X : Type 0} (Text : List ℕ → X → Type 0) (Wrong : ItemView → Fault → Type 0) (part : PartView) (fault : Fault) : Type 0 where
+pub record WrongAfter {X : Type 0} (Text : List ℕ → X → Type 0) (Wrong : ItemView → Fault → Type 0) (part : PartView)
+    (fault : Fault) : Type 0 where
   pub before : List X
   pub front : List ℕ
   pub rest : List ℕ
@@ -70,33 +72,35 @@ pub record WrongAfter {X : Type 0} (Text : List ℕ → X → Type 0) (Wrong : I
 
 -- a SEQUENCE, else kind 1, that isn't empty, else kind 2, of such elements, and nothing after it
 abbrev pub WrongSome : {X : Type 0} → (List ℕ → X → Type 0) → (ItemView → Fault → Type 0) → PartView → Fault → Type 0
-WrongSome Text Wrong =
-    First (Unless (IsTagged sequence_tag) 1 (Unless IsFilled 2 (Within (WrongAfter Text Wrong) (AreAll Text) (Behind LeftOver))))
+WrongSome Text Wrong = First (Unless (IsTagged sequence_tag) 1
+    (Unless IsFilled 2 (Within (WrongAfter Text Wrong) (AreAll Text) (Behind LeftOver))))
 
 -- in an entry: a name, and a SEQUENCE of one value or more
 abbrev pub WrongPermit : PartView → Fault → Type 0
-WrongPermit =
-    First (Unless (IsTagged (tag_of Name)) 1 (Unless (IsOfForm Name) (kind_of Name) (Behind (WrongSome (FormText Value) (WrongText Value)))))
+WrongPermit = First (Unless (IsTagged (tag_of Name)) 1
+    (Unless (IsOfForm Name) (kind_of Name) (Behind (WrongSome (FormText Value) (WrongText Value)))))
 
 -- an entry: a SEQUENCE, else kind 1, that isn't empty, else kind 2
 abbrev pub WrongEntry : ItemView → Fault → Type 0
 WrongEntry = Unless (IsTagged sequence_tag) 1 (Unless IsFilled 2 (λ entry. WrongPermit entry.content))
 
--- A part that may be absent: the bytes begin with its tag, and its element isn't a SEQUENCE of one or more of these, or it is and this is wrong
--- after it; or they don't begin so, and this is wrong with them.
-abbrev pub WrongPart : {X : Type 0} → ℕ → (List ℕ → X → Type 0) → (ItemView → Fault → Type 0) → (PartView → Fault → Type 0) → PartView → Fault → Type 0
-WrongPart tag Text Wrong Next part fault =
-    (BeginsBy tag part.left × First (Unless (IsTagged tag) 1 (Within (WrongSome Text Wrong) (AreSome Text) (Behind Next))) part fault)
+-- A part that may be absent: the bytes begin with its tag, and its element isn't a SEQUENCE of one or more of these, or
+-- it is and this is wrong after it; or they don't begin so, and this is wrong with them.
+abbrev pub WrongPart : {X : Type 0} → ℕ → (List ℕ → X → Type 0) → (ItemView → Fault → Type 0)
+    → (PartView → Fault → Type 0) → PartView → Fault → Type 0
+WrongPart tag Text Wrong Next part fault = (BeginsBy tag part.left
+    × First (Unless (IsTagged tag) 1 (Within (WrongSome Text Wrong) (AreSome Text) (Behind Next))) part fault)
     ⊎ ((BeginsBy tag part.left → ⊥) × Next part fault)
 
 -- the names of the claims that must be there, then the entries of those with values, and nothing more
 abbrev pub WrongParts : PartView → Fault → Type 0
 WrongParts = WrongPart must_tag (FormText Name) (WrongText Name) (WrongPart permits_tag PermitText WrongEntry LeftOver)
 
--- the bytes are no constraints, which are one SEQUENCE that isn't empty and nothing after it, and this is their first fault
+-- the bytes are no constraints, which are one SEQUENCE that isn't empty and nothing after it, and this is their first
+-- fault
 abbrev pub Refused : List ℕ → Fault → Type 0
-Refused bytes =
-    First (Unless (IsTagged sequence_tag) 1 (Unless IsFilled 2 (Within WrongParts AreParts (Behind LeftOver)))) (whole_text bytes)
+Refused bytes = First (Unless (IsTagged sequence_tag) 1
+    (Unless IsFilled 2 (Within WrongParts AreParts (Behind LeftOver)))) (whole_text bytes)
 
 -- an answer other than constraints and `Memory` is the first fault of the bytes
 abbrev pub IsRefused : {A : Type 0} → List ℕ → Result A ConstraintFault → Type 0

@@ -1,10 +1,12 @@
 //! Constraints on claims.
-ghost use Rattle.std.specs.Prelude.{◌≡◌, ◌↔◌, ◌≤◌, ◌<◌, IfOk, IfSome, IsSome, IsTrue, Ok, Err, Some, ℕ, List, length, option_map};
+ghost use Rattle.std.specs.Prelude.{◌≡◌, ◌↔◌, ◌≤◌, ◌<◌, IfOk, IfSome, IsSome, IsTrue, Ok, Err, Some, ℕ, List, length};
+ghost use Rattle.std.specs.Prelude.{option_map};
 ghost use Rattle.std.specs.List.{slice_get};
 ghost use Rattle.der_reader.specs.Elem.{AllBytes};
 ghost use Rattle.der_reader.specs.declared.part.Fault.{Fault};
 ghost use Rattle.serde_json.specs.View.{view};
-ghost use Rattle.claim_constraints.specs.Constraints.{ConstraintsView, IsConstraints, PermitView, permits_of, texts_of, values_at};
+ghost use Rattle.claim_constraints.specs.Constraints.{ConstraintsView, IsConstraints, PermitView, permits_of, texts_of};
+ghost use Rattle.claim_constraints.specs.Constraints.{values_at};
 ghost use Rattle.claim_constraints.specs.ConstraintsText.{ConstraintsText, constraints_text};
 ghost use Rattle.claim_constraints.specs.Fault.{Gives};
 ghost use Rattle.claim_constraints.specs.Meets.{Meets, meets};
@@ -46,10 +48,11 @@ impl Model for Constraints {
 impl Constraints {
     /// The constraints that the bytes are, in DER.
     ///
-    /// They are one SEQUENCE of two parts and nothing after it, and at least one of the parts is there. `A0` has a SEQUENCE of
-    /// IA5Strings in it, the names of the claims that must be there. `A1` has a SEQUENCE of entries in it. Each entry is a SEQUENCE of
-    /// an IA5String, a claim's name, and a SEQUENCE of UTF8Strings, its values. A name is 1 to 64 bytes from 0x21 to 0x7E. Faults are found
-    /// in byte order, and the first is the answer: `ConstraintFault` says which there are, and where each is.
+    /// They are one SEQUENCE of two parts and nothing after it, and at least one of the parts is there. `A0` has a
+    /// SEQUENCE of IA5Strings in it, the names of the claims that must be there. `A1` has a SEQUENCE of entries in it.
+    /// Each entry is a SEQUENCE of an IA5String, a claim's name, and a SEQUENCE of UTF8Strings, its values. A name is 1
+    /// to 64 bytes from 0x21 to 0x7E. Faults are found in byte order, and the first is the answer: `ConstraintFault`
+    /// says which there are, and where each is.
     #[tactic(auto, using(crate::proofs::WholeLaws::answer_found, crate::proofs::WholeLaws::answer_only, crate::proofs::WholeLaws::one_text, crate::proofs::WholeLaws::answer_refused, crate::proofs::WholeLaws::answer_is_refused))]
     pub fn read(alloc: Global, bytes: &[u8]) -> Result<Constraints, ConstraintFault>
         // The constraints, or the first fault.
@@ -69,11 +72,14 @@ impl Constraints {
         read_exactly(alloc, bytes)
     }
 
-    /// The constraints by which these claims must be there, and these may have their values alone: each of `permits` is a claim's name with its
-    /// values. None if both lists are empty, a list of values is, or a name or value is outside its form.
+    /// The constraints by which these claims must be there, and these may have their values alone: each of `permits` is
+    /// a claim's name with its values. None if both lists are empty, a list of values is, or a name or value is outside
+    /// its form.
     pub fn build(must: Vec<Vec<u8>>, permits: Vec<(Vec<u8>, Vec<Vec<u8>>)>) -> Option<Constraints>
-        ensures exact { IfSome result (λ c. c ≡ record { must = texts_of must.items; permits = permits_of permits.items }) }
-        ensures rules { IsSome result ↔ IsConstraints (record { must = texts_of must.items; permits = permits_of permits.items }) }
+        ensures exact { IfSome result
+            (λ c. c ≡ record { must = texts_of must.items; permits = permits_of permits.items }) }
+        ensures rules { IsSome result
+            ↔ IsConstraints (record { must = texts_of must.items; permits = permits_of permits.items }) }
     {
         Constraints::of(Texts::of(must), Permits::of(permits))
     }
@@ -117,7 +123,8 @@ impl Constraints {
     /// The name of the claim at this index of those with permitted values.
     pub fn claim(&self, index: usize) -> &[u8]
         requires { index < length self.now.permits }
-        ensures { option_map (λ (permit : PermitView). permit.claim) (slice_get self.now.permits index) ≡ Some result.now }
+        ensures { option_map (λ (permit : PermitView). permit.claim) (slice_get self.now.permits index)
+            ≡ Some result.now }
     {
         self.permits.permit(index).claim()
     }
@@ -161,8 +168,8 @@ impl Constraints {
         write_constraints(self.permits.alloc(), &self.must, &self.permits)
     }
 
-    /// Whether a payload meets the constraints: each claim that must be there is a member of it, and each claim with permitted values that is a
-    /// member is a JSON text equal byte for byte to one of them.
+    /// Whether a payload meets the constraints: each claim that must be there is a member of it, and each claim with
+    /// permitted values that is a member is a JSON text equal byte for byte to one of them.
     #[tactic(auto, using(crate::proofs::MeetLaws::answer_meets))]
     pub fn meets(&self, payload: &Value) -> bool
         ensures exact { result ≡ meets self.now (view payload.now) }

@@ -19,7 +19,8 @@ impl Model for Permits {
 
     ghost Value = { List PermitView };
 
-    ghost view = { λ p. map (λ entry. record { claim = entry.0.items; values = map (λ value. value.items) entry.1.items }) p.list.items };
+    ghost view = { λ p. map (λ entry.
+        record { claim = entry.0.items; values = map (λ value. value.items) entry.1.items }) p.list.items };
 }
 
 impl Permits {
@@ -34,7 +35,8 @@ impl Permits {
 
     /// These claims, each a name and its values. It takes no memory.
     pub(crate) fn of(list: Vec<(Vec<u8>, Vec<Vec<u8>>)>) -> Permits
-        ensures { result ≡ map (λ entry. record { claim = entry.0.items; values = map (λ value. value.items) entry.1.items }) list.items }
+        ensures { result ≡ map (λ entry.
+            record { claim = entry.0.items; values = map (λ value. value.items) entry.1.items }) list.items }
     {
         Permits { list }
     }
@@ -44,7 +46,8 @@ impl Permits {
         *self.list.allocator()
     }
 
-    /// Adds after the others the claim that these texts are, its name first. If there is no memory for it, they stay as they are.
+    /// Adds after the others the claim that these texts are, its name first. If there is no memory for it, they stay as
+    /// they are.
     #[tactic(auto, using(crate::proofs::TextsLaws::permit_more))]
     pub(crate) fn push(&mut self, texts: Texts) -> Result<(), AllocError>
         requires { 1 ≤ length texts }

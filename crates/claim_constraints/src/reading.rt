@@ -6,7 +6,8 @@ ghost use Rattle.der_reader.specs.Part.{item_of, part_of};
 ghost use Rattle.claim_constraints.specs.Constraints.{permit_of};
 ghost use Rattle.claim_constraints.specs.ConstraintsText.{must_tag, permits_tag};
 ghost use Rattle.claim_constraints.specs.Fault.{Gives};
-ghost use Rattle.claim_constraints.specs.Read.{begins, filled, optional_in, parts_in, permit_in, permit_with, read_constraints, some_in, part_view, text_with};
+ghost use Rattle.claim_constraints.specs.Read.{begins, filled, optional_in, parts_in, permit_in, permit_with};
+ghost use Rattle.claim_constraints.specs.Read.{read_constraints, some_in, part_view, text_with};
 ghost use Rattle.claim_constraints.specs.declared.form.Form.TheVariants.{Name};
 
 use crate::fault::ConstraintFault;
@@ -59,7 +60,8 @@ fn parts_in(alloc: Global, part: &Part) -> Result<Parts, ConstraintFault>
 /// The claims that must be there, none if their part is absent, and what comes after it.
 #[tactic(auto, unfolding(crate::specs::Read::optional_in, crate::specs::Read::marked_in))]
 fn must_in<'a>(alloc: Global, part: &Part<'a>) -> Result<(Texts, Part<'a>), ConstraintFault>
-    ensures exact { Gives (λ found. (found.0, part_of found.1)) result (optional_in must_tag (text_with Name) (part_of part.now)) }
+    ensures exact { Gives (λ found. (found.0, part_of found.1)) result
+        (optional_in must_tag (text_with Name) (part_of part.now)) }
 {
     let names = Texts::new(alloc);
     if !begins(part.left, MUST) {
@@ -75,7 +77,8 @@ fn must_in<'a>(alloc: Global, part: &Part<'a>) -> Result<(Texts, Part<'a>), Cons
 /// The claims of which some values are permitted, none if their part is absent, and what comes after it.
 #[tactic(auto, unfolding(crate::specs::Read::optional_in, crate::specs::Read::marked_in, crate::specs::Read::some_in))]
 fn permits_in<'a>(alloc: Global, part: &Part<'a>) -> Result<(Permits, Part<'a>), ConstraintFault>
-    ensures exact { Gives (λ found. (found.0, part_of found.1)) result (optional_in permits_tag permit_with (part_of part.now)) }
+    ensures exact { Gives (λ found. (found.0, part_of found.1)) result
+        (optional_in permits_tag permit_with (part_of part.now)) }
 {
     if !begins(part.left, PERMITS) {
         return Ok((Permits::new(alloc), *part));

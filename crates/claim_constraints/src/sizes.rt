@@ -2,7 +2,8 @@
 ghost use Rattle.std.specs.Prelude.{◌≡◌, ◌+◌, ◌≤◌, ℕ, List, length};
 ghost use Rattle.der_reader.specs.Elem.{element_text};
 ghost use Rattle.der_reader.specs.Tags.{sequence_tag};
-ghost use Rattle.claim_constraints.specs.ConstraintsText.{constraints_text, elements, must_part, names_text, permit_content, permits_part, values_text};
+ghost use Rattle.claim_constraints.specs.ConstraintsText.{constraints_text, elements, must_part, names_text};
+ghost use Rattle.claim_constraints.specs.ConstraintsText.{permit_content, permits_part, values_text};
 ghost use Rattle.claim_constraints.specs.Size.{capped};
 
 use crate::permit::{Permit, Permits};
@@ -88,7 +89,8 @@ fn text_size(text: &[u8]) -> usize
 
 /// How long the element of a content of this size is, up to 65,536.
 fn element_size(content: usize) -> usize
-    ensures { (tag : ℕ) (bytes : List ℕ) → content ≡ capped (length bytes) → result ≡ capped (length (element_text tag bytes)) }
+    ensures { (tag : ℕ) (bytes : List ℕ) → content ≡ capped (length bytes)
+        → result ≡ capped (length (element_text tag bytes)) }
 {
     match content {
         0..=0x7F => content + 2,

@@ -1,7 +1,8 @@
 //! From constraints to bytes.
 ghost use Rattle.std.specs.Prelude.{◌≡◌, ◌≤◌, ◌<◌, length, IfOk};
 ghost use Rattle.der_reader.specs.Tags.{sequence_tag};
-ghost use Rattle.claim_constraints.specs.ConstraintsText.{constraints_text, elements, must_part, names_text, permit_content, permits_part, values_text};
+ghost use Rattle.claim_constraints.specs.ConstraintsText.{constraints_text, elements, must_part, names_text};
+ghost use Rattle.claim_constraints.specs.ConstraintsText.{permit_content, permits_part, values_text};
 
 use crate::form::Form;
 use crate::permit::{Permit, Permits};

@@ -1,5 +1,6 @@
 -- Trust anchors, as a file of certificates one after another (RFC 5280, section 6.1.1 (d)).
-use Rattle.std.specs.Prelude.{◌≡◌, ◌≢◌, ℕ, zero, suc, ◌-◌, ◌==◌, ◌<◌, ◌≤◌, List, [], ◌∷◌, ◌++◌, length, true, Option, Some, None, Result, Ok, Err, ⊤, if◌then◌else◌}
+use Rattle.std.specs.Prelude.{◌≡◌, ◌≢◌, ℕ, zero, suc, ◌-◌, ◌==◌, ◌<◌, ◌≤◌, List, [], ◌∷◌, ◌++◌, length, true, Option}
+use Rattle.std.specs.Prelude.{Some, None, Result, Ok, Err, ⊤, if◌then◌else◌}
 use Rattle.lists.specs.Given as given
 use Rattle.lists.specs.Steps.{◌>>=◌}
 use Rattle.der_reader.specs.declared.fault.DerFault.{DerFault}
@@ -27,7 +28,8 @@ pub record AnchorText (bytes : List ℕ) (anchors : List CertView) : Type 0 wher
 
 -- the bytes begin with no certificate of the profile that may certify others
 abbrev pub BeginsWithNone : List ℕ → Type 0
-BeginsWithNone bytes = (c : CertView) (behind : List ℕ) → bytes ≡ c.whole ++ behind → Cert c.whole c → may_certify c ≡ true → ⊥
+BeginsWithNone bytes = (c : CertView) (behind : List ℕ) → bytes ≡ c.whole ++ behind → Cert c.whole c
+    → may_certify c ≡ true → ⊥
 
 -- after so many anchors bytes are left that are no anchor: one would be the 257th, or none begins there
 pub data IsNoAnchor (count : ℕ) (rest : List ℕ) : Type 0 where

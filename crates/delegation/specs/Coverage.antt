@@ -1,5 +1,6 @@
--- Which telephone numbers an authority covers (RFC 8226, section 9), and which authority lies within another (RFC 9060). What a
--- code stands for, and that a code lies within an authority only if this names the code, is this project's own rule.
+-- Which telephone numbers an authority covers (RFC 8226, section 9), and which authority lies within another (RFC
+-- 9060). What a code stands for, and that a code lies within an authority only if this names the code, is this
+-- project's own rule.
 use Rattle.std.specs.Prelude.{◌≡◌, ℕ, true, List, Option, Some, None}
 use Rattle.tn_values.specs.Number.{is_number}
 use Rattle.tn_values.specs.Span.{SpanHolds}
@@ -48,8 +49,8 @@ Owns number (Single own) = own ≡ number
 abbrev pub NamesCode : List Entry → List ℕ → Type 0
 NamesCode entries code = SomeOf (λ entry. entry ≡ Code code) entries
 
--- each code of the child is one of the parent, and every number that a single or a range of the child holds is covered by
--- the parent
+-- each code of the child is one of the parent, and every number that a single or a range of the child holds is covered
+-- by the parent
 pub record ListWithin (child parent : List Entry) (table : Table) : Type 0 where
   pub codes : (code : List ℕ) → NamesCode child code → NamesCode parent code
   pub numbers : (number : List ℕ) → is_number number ≡ true → SomeOf (Owns number) child → Covers parent table number

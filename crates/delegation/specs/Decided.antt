@@ -1,5 +1,5 @@
--- Whether one authority lies within another, as a test: `Within`, but what it says of every number is tested at each of the list of
--- all numbers. Nothing computes it.
+-- Whether one authority lies within another, as a test: `Within`, but what it says of every number is tested at each of
+-- the list of all numbers. Nothing computes it.
 use Rattle.std.specs.Prelude.{ℕ, Bool, true, false, ◌&&◌, List, [], ◌∷◌, Option, Some, None, if◌then◌else◌}
 use Rattle.std.specs.List.{list_all, list_any}
 use Rattle.std.specs.Str.{bytes_eq}
@@ -47,7 +47,8 @@ keeps_number child parent table number = if owns_number child number then covers
 
 -- ---- every number
 
--- each code of the child is one of the parent, and the parent covers every number that a single or a range of the child holds
+-- each code of the child is one of the parent, and the parent covers every number that a single or a range of the child
+-- holds
 unfoldable pub is_list_within : List Entry → List Entry → Table → Bool
 is_list_within child parent table = has_codes_of parent child && list_all (keeps_number child parent table) every_number
 

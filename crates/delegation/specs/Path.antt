@@ -1,6 +1,7 @@
 -- Paths of certificates, from the leaf up to a trust anchor (RFC 5280, section 6.1). A chain is a list of
 -- certificates, the leaf first, and each next one is to be the issuer of the one before it.
-use Rattle.std.specs.Prelude.{◌≡◌, ℕ, suc, ◌+◌, ◌-◌, ◌<◌, nat_lt, Bool, true, false, List, [], ◌∷◌, length, Option, Some, None, Result, Ok, Err, if◌then◌else◌}
+use Rattle.std.specs.Prelude.{◌≡◌, ℕ, suc, ◌+◌, ◌-◌, ◌<◌, nat_lt, Bool, true, false, List, [], ◌∷◌, length, Option}
+use Rattle.std.specs.Prelude.{Some, None, Result, Ok, Err, if◌then◌else◌}
 use Rattle.std.specs.List.{list_any, slice_get}
 use Rattle.std.specs.Str.{bytes_eq}
 use Rattle.lists.specs.Steps.{◌>>=◌}
@@ -63,7 +64,8 @@ pub record Path (chain anchors : List CertView) (anchor : Option ℕ) : Type 0 w
   pub count : length chain ≡ suc below
   pub is_last : slice_get chain below ≡ Some last
   pub leaf_use : may_sign leaf ≡ true
-  pub issued : (i : ℕ) (c b : CertView) → slice_get chain (suc i) ≡ Some c → slice_get chain i ≡ Some b → Issues (2 + i) c b
+  pub issued : (i : ℕ) (c b : CertView) → slice_get chain (suc i) ≡ Some c
+      → slice_get chain i ≡ Some b → Issues (2 + i) c b
   pub anchored : IsAnchor (suc below) last anchors anchor
 
 -- the certificate above a path: its anchor, or the last certificate if that is itself an anchor

@@ -39,22 +39,24 @@ impl Model for Anchors {
 impl Anchors {
     /// The anchors that the bytes are.
     ///
-    /// The bytes are at most 256 certificates of the profile one after another, each of which may certify others: it is a
-    /// certificate authority's, and has keyCertSign if it has key usages (RFC 5280, sections 4.2.1.3 and 4.2.1.9). The place
-    /// of a fault is the offset of the first that isn't such a certificate, or of the 257th. No bytes are no anchors.
+    /// The bytes are at most 256 certificates of the profile one after another, each of which may certify others: it is
+    /// a certificate authority's, and has keyCertSign if it has key usages (RFC 5280, sections 4.2.1.3 and 4.2.1.9).
+    /// The place of a fault is the offset of the first that isn't such a certificate, or of the 257th. No bytes are no
+    /// anchors.
     pub fn read(alloc: Global, bytes: &[u8]) -> Result<Anchors, AnchorFault>
         // The anchors, or the place of the first that is none.
         ensures exact { Gives (λ anchors. anchors) result (anchors_in bytes.now) }
 
         // An answer is the anchors that the bytes are, and the ones that they are are the answer.
         ensures found { IfOk result (AnchorText bytes.now) }
-        ensures only { (anchors : List CertView) → AnchorText bytes.now anchors → Gives (λ anchors. anchors) result (Ok anchors) }
+        ensures only { (anchors : List CertView) → AnchorText bytes.now anchors
+            → Gives (λ anchors. anchors) result (Ok anchors) }
 
         // The bytes are the anchors of one list at most.
         ensures unique { (a b : List CertView) → AnchorText bytes.now a → AnchorText bytes.now b → a ≡ b }
 
-        // A fault's place is where, after anchors, the first bytes come that are none. If such bytes come at a place, that
-        // is the fault.
+        // A fault's place is where, after anchors, the first bytes come that are none. If such bytes come at a place,
+        // that is the fault.
         ensures refused { IfAt result (EndsAt bytes.now) }
         ensures only_refused { (place : ℕ) → EndsAt bytes.now place → Gives (λ anchors. anchors) result (Err place) }
 

@@ -24,17 +24,20 @@ pub enum Authority<'a> {
 
 /// Whether the child lies within the parent (RFC 9060).
 ///
-/// Everything lies within `All`, and `All` within no list. A list lies within another if this names each of its codes and
-/// covers every number that its singles and ranges hold, whichever entries it does so by. That codes are compared by name,
-/// and not by their numbers, is this project's own rule. `Memory` comes if there is none for the sets of numbers.
+/// Everything lies within `All`, and `All` within no list. A list lies within another if this names each of its codes
+/// and covers every number that its singles and ranges hold, whichever entries it does so by. That codes are compared
+/// by name, and not by their numbers, is this project's own rule. `Memory` comes if there is none for the sets of
+/// numbers.
 pub fn within(
     alloc: Global,
     child: &Authority<'_>,
     parent: &Authority<'_>,
     table: &CodeTable,
 ) -> Result<bool, Memory>
-    ensures exact { IfOk result (λ answer. answer ≡ is_within (entries_of child.now) (entries_of parent.now) table.now) }
-    ensures within { IfOk result (λ answer. IsTrue answer ↔ Within (entries_of child.now) (entries_of parent.now) table.now) }
+    ensures exact { IfOk result
+        (λ answer. answer ≡ is_within (entries_of child.now) (entries_of parent.now) table.now) }
+    ensures within { IfOk result (λ answer. IsTrue answer
+        ↔ Within (entries_of child.now) (entries_of parent.now) table.now) }
 
     // The test that gives the answer decides lying within.
     ensures decides { IsTrue (is_within (entries_of child.now) (entries_of parent.now) table.now)
@@ -48,7 +51,8 @@ pub fn within(
 
     // What the child covers its parent covers.
     ensures kept { Within (entries_of child.now) (entries_of parent.now) table.now → (number : List ℕ)
-        → IsTrue (is_number number) → CoveredBy (entries_of child.now) table.now number → CoveredBy (entries_of parent.now) table.now number }
+        → IsTrue (is_number number) → CoveredBy (entries_of child.now) table.now number
+        → CoveredBy (entries_of parent.now) table.now number }
 {
     match (child, parent) {
         (_, Authority::All) => Ok(true),

@@ -16,7 +16,8 @@ pub fn covers(list: &AuthList, number: &Number, table: &CodeTable) -> bool
     ensures covers { IsTrue result ↔ Covers list.now table.now number.now }
 
     // The same by the rows of the text from which the table was read.
-    ensures rows { (text : List ℕ) (read : TableOf text table.now) → IsTrue result ↔ CoversByRows list.now read number.now }
+    ensures rows { (text : List ℕ) (read : TableOf text table.now)
+        → IsTrue result ↔ CoversByRows list.now read number.now }
 {
     some_holds(list.entries(), number, table)
 }

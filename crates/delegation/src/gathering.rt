@@ -8,7 +8,8 @@ ghost use Rattle.tn_values.specs.NumberSet.{SetHolds};
 ghost use Rattle.tn_auth_list.specs.CodeTable.{SomeOf};
 ghost use Rattle.tn_auth_list.specs.Grant.{grant_view};
 ghost use Rattle.delegation.specs.Coverage.{Covers, NamesCode, Owns};
-ghost use Rattle.delegation.specs.Gathered.{code_in, no_numbers, stands_for_all, with_code, with_held, with_own, with_set};
+ghost use Rattle.delegation.specs.Gathered.{code_in, no_numbers, stands_for_all, with_code, with_held, with_own};
+ghost use Rattle.delegation.specs.Gathered.{with_set};
 
 use crate::Memory;
 use std::alloc::Global;

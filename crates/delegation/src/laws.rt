@@ -10,18 +10,23 @@ ghost use Rattle.delegation.specs.declared.fault.PathFault.{PathFault};
 
 /// The test whether some entry holds a number decides that one does (RFC 8226, section 9).
 pub fn covers_law()
-    ensures { (entries : List Entry) (table : Table) (number : List ℕ) → IsTrue (covers_number entries table number) ↔ Covers entries table number }
+    ensures { (entries : List Entry) (table : Table) (number : List ℕ)
+        → IsTrue (covers_number entries table number) ↔ Covers entries table number }
 {}
 
 /// The test whether one authority lies within another decides that it does (RFC 9060).
 pub fn within_law()
-    ensures decides { (child parent : Option (List Entry)) (table : Table) → IsTrue (is_within child parent table) ↔ Within child parent table }
+    ensures decides { (child parent : Option (List Entry)) (table : Table)
+        → IsTrue (is_within child parent table) ↔ Within child parent table }
 {}
 
-/// The shape of certificates is an anchor if they are a path up to it (RFC 5280, section 6.1), and else what is wrong first.
+/// The shape of certificates is an anchor if they are a path up to it (RFC 5280, section 6.1), and else what is wrong
+/// first.
 pub fn path_law()
-    ensures again { (chain anchors : List CertView) (anchor : Option ℕ) → Path chain anchors anchor → shape_of chain anchors ≡ Ok anchor }
-    ensures found { (chain anchors : List CertView) (anchor : Option ℕ) → shape_of chain anchors ≡ Ok anchor → Path chain anchors anchor }
+    ensures again { (chain anchors : List CertView) (anchor : Option ℕ) → Path chain anchors anchor
+        → shape_of chain anchors ≡ Ok anchor }
+    ensures found { (chain anchors : List CertView) (anchor : Option ℕ) → shape_of chain anchors ≡ Ok anchor
+        → Path chain anchors anchor }
     ensures refused_again { (chain anchors : List CertView) (kind place : ℕ) → IsFirstFault chain anchors kind place
         → shape_of chain anchors ≡ Err (fault_at kind place) }
     ensures refused { (chain anchors : List CertView) (fault : PathFault) → shape_of chain anchors ≡ Err fault

@@ -3,7 +3,8 @@
 ghost use Rattle.std.specs.Prelude.{◌≡◌, ◌↔◌, ◌+◌, ◌<◌, ◌≤◌, ℕ, Option, length, IfOk, IfErr, IsErrAnd, Ok, Some, None};
 ghost use Rattle.std.specs.Result.{IsOkAnd};
 ghost use Rattle.std.specs.Option.{option_copied};
-ghost use Rattle.delegation.specs.Path.{Path, agree, find_anchor, first_from, fits, is_long_enough, last_of, link_at, shape_of};
+ghost use Rattle.delegation.specs.Path.{Path, agree, find_anchor, first_from, fits, is_long_enough, last_of, link_at};
+ghost use Rattle.delegation.specs.Path.{shape_of};
 ghost use Rattle.delegation.specs.PathFaults.{Breaks, IsFirstFault};
 ghost use Rattle.delegation.specs.Seen.{shape_view, last_view, link_view};
 
@@ -30,10 +31,12 @@ pub fn shape(chain: &[Certificate], anchors: &Anchors) -> Result<Shape, PathFaul
 
     // An answer is the anchor of the path that the chain is, and each such path is the answer.
     ensures found { IfOk result (λ shape. Path chain.now anchors.now shape.anchor) }
-    ensures only { (anchor : Option ℕ) → Path chain.now anchors.now anchor → IsOkAnd result (λ shape. shape.anchor ≡ anchor) }
+    ensures only { (anchor : Option ℕ) → Path chain.now anchors.now anchor
+        → IsOkAnd result (λ shape. shape.anchor ≡ anchor) }
 
     // That this is the shape, and that the chain is a path up to this anchor, are one thing.
-    ensures path { (anchor : Option ℕ) → (shape_of chain.now anchors.now ≡ Ok anchor) ↔ Path chain.now anchors.now anchor }
+    ensures path { (anchor : Option ℕ)
+        → (shape_of chain.now anchors.now ≡ Ok anchor) ↔ Path chain.now anchors.now anchor }
 
     // A fault is the first of all that is wrong, and what is wrong first is the fault. With a path nothing is wrong.
     ensures fault { IfErr result (λ fault. IsFirstFault chain.now anchors.now fault.kind fault.place) }

@@ -1,5 +1,5 @@
--- Why elements in order can't be read: the first of them, in the order in which they come, that is no element or isn't as it has to be. Places
--- count from the whole text's first byte. This is this project's own rule.
+-- Why elements in order can't be read: the first of them, in the order in which they come, that is no element or isn't
+-- as it has to be. Places count from the whole text's first byte. This is this project's own rule.
 use Rattle.std.specs.Prelude.{◌≡◌, ◌⊎◌, ℕ, ◌+◌, ◌≤◌, List, [], length, Err}
 use Rattle.der_reader.specs.declared.fault.DerFault.{DerFault}
 use Rattle.der_reader.specs.declared.part.Fault.{Fault}
@@ -25,7 +25,8 @@ First Wrong part fault = IsUnreadable part fault ⊎ IsWrongFirst Wrong part fau
 
 -- the element isn't so, which is a fault of this kind where it begins; or it is so, and this is wrong
 abbrev pub Unless : (ItemView → Type 0) → ℕ → (ItemView → Fault → Type 0) → ItemView → Fault → Type 0
-Unless Good kind Wrong item fault = ((Good item → ⊥) × (fault ≡ at_kind kind item.place)) ⊎ (Good item × Wrong item fault)
+Unless Good kind Wrong item fault =
+    ((Good item → ⊥) × (fault ≡ at_kind kind item.place)) ⊎ (Good item × Wrong item fault)
 
 -- it has this tag
 abbrev pub IsTagged : ℕ → ItemView → Type 0
@@ -35,7 +36,8 @@ IsTagged tag item = item.tag ≡ tag
 abbrev pub Behind : (PartView → Fault → Type 0) → ItemView → Fault → Type 0
 Behind Wrong item fault = Wrong item.behind fault
 
--- the first element has to be so, and another is a fault of this kind where it begins; or it is so, and this is wrong after it
+-- the first element has to be so, and another is a fault of this kind where it begins; or it is so, and this is wrong
+-- after it
 abbrev pub Followed : (ItemView → Type 0) → ℕ → (PartView → Fault → Type 0) → PartView → Fault → Type 0
 Followed Good kind Wrong = First (Unless Good kind (Behind Wrong))
 
@@ -44,7 +46,8 @@ abbrev pub Through : (PartView → Fault → Type 0) → (List ℕ → Type 0) �
 Through Inner Good Wrong part fault = Inner part fault ⊎ (Good part.left × Wrong fault)
 
 -- the same of an element's content
-abbrev pub Within : (PartView → Fault → Type 0) → (List ℕ → Type 0) → (ItemView → Fault → Type 0) → ItemView → Fault → Type 0
+abbrev pub Within : (PartView → Fault → Type 0) → (List ℕ → Type 0) → (ItemView → Fault → Type 0)
+    → ItemView → Fault → Type 0
 Within Inner Good Wrong item = Through Inner Good (Wrong item) item.content
 
 -- bytes are left over

@@ -28,8 +28,8 @@ ComeTo Adds start [] end = end ≡ start
 ComeTo Adds start (x ∷ more) end = (next : _) × Adds start x next × ComeTo Adds next more end
 
 -- after some that come to this, more bytes follow, and their first element is wrong
-pub record WrongBehind {S X : Type 0} (Text : List ℕ → X → Type 0) (Adds : S → X → S → Type 0) (Wrong : S → ItemView → Fault → Type 0) (start : S)
-    (part : PartView) (fault : Fault) : Type 0 where
+pub record WrongBehind {S X : Type 0} (Text : List ℕ → X → Type 0) (Adds : S → X → S → Type 0)
+    (Wrong : S → ItemView → Fault → Type 0) (start : S) (part : PartView) (fault : Fault) : Type 0 where
   pub before : List X
   pub now : S
   pub front : List ℕ

@@ -1,5 +1,6 @@
 -- A DER element, in the profile of this project: X.690, sections 8.1.2, 8.1.3 and 10.1.
-use Rattle.std.specs.Prelude.{◌≡◌, ◌≢◌, ◌⊎◌, ℕ, ◌/◌, ◌%◌, ◌<◌, List, [], ◌∷◌, ◌++◌, length, slice_index, nat_lt, bit_and, Option, Some, None, if◌then◌else◌}
+use Rattle.std.specs.Prelude.{◌≡◌, ◌≢◌, ◌⊎◌, ℕ, ◌/◌, ◌%◌, ◌<◌, List, [], ◌∷◌, ◌++◌, length, slice_index, nat_lt}
+use Rattle.std.specs.Prelude.{bit_and, Option, Some, None, if◌then◌else◌}
 use Rattle.der_reader.specs.declared.element.Der.{Der}
 use Rattle.der_reader.specs.Tags.{sequence_tag}
 
@@ -48,7 +49,8 @@ pub record BeginsWithOther (tag : ℕ) (bytes : List ℕ) : Type 0 where
   pub begins : BeginsWith bytes element rest
   pub other : element.tag ≢ tag
 
--- an element of this tag that may be absent, and what comes after it; if it is absent, that is all bytes: none, or an element of another tag first
+-- an element of this tag that may be absent, and what comes after it; if it is absent, that is all bytes: none, or an
+-- element of another tag first
 abbrev pub MayBeginWith : ℕ → List ℕ → Option Element → List ℕ → Type 0
 MayBeginWith tag bytes (Some element) rest = BeginsWith bytes element rest × (element.tag ≡ tag)
 MayBeginWith tag bytes None rest = (rest ≡ bytes) × ((bytes ≡ []) ⊎ BeginsWithOther tag bytes)

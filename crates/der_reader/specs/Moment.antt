@@ -1,5 +1,6 @@
 -- A civil date and a time of day in UTC, and the Unix seconds that it is.
-use Rattle.std.specs.Prelude.{ℕ, ◌+◌, ◌*◌, ◌<◌, Bool, ◌&&◌, nat_lt, nat_le, ℤ, pos, ◌+ℤ◌, ◌*ℤ◌, Result, Ok, Err, if◌then◌else◌}
+use Rattle.std.specs.Prelude.{ℕ, ◌+◌, ◌*◌, ◌<◌, Bool, ◌&&◌, nat_lt, nat_le, ℤ, pos, ◌+ℤ◌, ◌*ℤ◌, Result, Ok, Err}
+use Rattle.std.specs.Prelude.{if◌then◌else◌}
 use Rattle.jiff_core.specs.Calendar.{IsDate, days_from_civil, days_in_month}
 use Rattle.der_reader.specs.declared.moment.Moment.{Moment}
 use Rattle.der_reader.specs.declared.fault.DerFault.{DerFault}

@@ -1,5 +1,6 @@
 -- What reading the element that some bytes begin with gives, with the ordered table of its faults.
-use Rattle.std.specs.Prelude.{ℕ, ◌+◌, ◌*◌, ◌&&◌, ◌==◌, List, length, take, drop, nat_lt, slice_index, bit_and, Option, Some, None, Result, Ok, Err, if◌then◌else◌}
+use Rattle.std.specs.Prelude.{ℕ, ◌+◌, ◌*◌, ◌&&◌, ◌==◌, List, length, take, drop, nat_lt, slice_index, bit_and, Option}
+use Rattle.std.specs.Prelude.{Some, None, Result, Ok, Err, if◌then◌else◌}
 use Rattle.std.specs.Borrow.{Bor}
 use Rattle.std.specs.Option.{option_map}
 use Rattle.der_reader.specs.declared.element.Der.{Der}
@@ -89,7 +90,8 @@ tagged_or tag bytes found = if found.0.tag == tag then (Some found.0, found.1) e
 
 -- an element of this tag that may be absent, and what comes after it
 unfoldable pub optional_at : ℕ → List ℕ → Result (Option Element × List ℕ) DerFault
-optional_at tag bytes = if length bytes == 0 then Ok (None, bytes) else (next_at bytes >>= λ found. Ok (tagged_or tag bytes found))
+optional_at tag bytes = if length bytes == 0 then Ok (None, bytes)
+    else (next_at bytes >>= λ found. Ok (tagged_or tag bytes found))
 
 -- an answer of `Der::optional` as plain data
 abbrev pub optional_view : Result (Option Der × Bor (List ℕ)) DerFault → Result (Option Element × List ℕ) DerFault

@@ -1,5 +1,5 @@
--- Elements one after another within the element around them, each with its place in the whole text, which counts from the
--- text's first byte: this project's own rule.
+-- Elements one after another within the element around them, each with its place in the whole text, which counts from
+-- the text's first byte: this project's own rule.
 use Rattle.std.specs.Prelude.{ℕ, ◌+◌, ◌-◌, ◌==◌, List, length, Option, Some, None, Result, Ok, Err, if◌then◌else◌}
 use Rattle.lists.specs.Steps.{◌>>=◌}
 use Rattle.der_reader.specs.declared.fault.DerFault.{DerFault}
@@ -14,7 +14,8 @@ use Rattle.der_reader.specs.Next.{next_at}
 abbrev pub at_kind : ℕ → ℕ → Fault
 at_kind kind place = record { kind = kind; place = place }
 
--- the bytes that are left up to the end of the element around them, and the place of the first of them in the whole text
+-- the bytes that are left up to the end of the element around them, and the place of the first of them in the whole
+-- text
 pub record PartView : Type 0 where
   pub left : List ℕ
   pub place : ℕ

@@ -1,6 +1,7 @@
 -- UTCTime and GeneralizedTime: X.680, sections 46 and 47, in the form of X.690, sections 11.7 and 11.8 and of
 -- RFC 5280, section 4.1.2.5, which have seconds, no fraction and the zone Z.
-use Rattle.std.specs.Prelude.{◌≡◌, ℕ, ◌+◌, ◌-◌, ◌*◌, ◌/◌, ◌%◌, ◌<◌, ◌≤◌, Bool, ◌&&◌, ◌==◌, List, [], ◌∷◌, ◌++◌, ◌⊎◌, length, drop, nat_lt, nat_le, slice_index, ℤ, Result, Ok, Err, if◌then◌else◌}
+use Rattle.std.specs.Prelude.{◌≡◌, ℕ, ◌+◌, ◌-◌, ◌*◌, ◌/◌, ◌%◌, ◌<◌, ◌≤◌, Bool, ◌&&◌, ◌==◌, List, [], ◌∷◌, ◌++◌, ◌⊎◌}
+use Rattle.std.specs.Prelude.{length, drop, nat_lt, nat_le, slice_index, ℤ, Result, Ok, Err, if◌then◌else◌}
 use Rattle.std.specs.Borrow.{Bor}
 use Rattle.der_reader.specs.declared.moment.Moment.{Moment}
 use Rattle.der_reader.specs.declared.fault.DerFault.{DerFault}

@@ -1,6 +1,7 @@
 //! BIT STRINGs (X.690, sections 8.6 and 11.2.1).
 
-ghost use Rattle.std.specs.Prelude.{◌≡◌, ℕ, ◌+◌, ◌*◌, ◌%◌, ◌^◌, ◌<◌, ◌≤◌, ◌==◌, ◌&&◌, nat_lt, List, length, IfOk, IfErr, IsOkAnd, Ok};
+ghost use Rattle.std.specs.Prelude.{◌≡◌, ℕ, ◌+◌, ◌*◌, ◌%◌, ◌^◌, ◌<◌, ◌≤◌, ◌==◌, ◌&&◌, nat_lt, List, length, IfOk};
+ghost use Rattle.std.specs.Prelude.{IfErr, IsOkAnd, Ok};
 ghost use Rattle.std.specs.Int.{w16, reverse_bits};
 ghost use Rattle.der_reader.specs.Fault.{bad_value};
 ghost use Rattle.der_reader.specs.Elem.{AllBytes};

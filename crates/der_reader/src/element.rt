@@ -3,7 +3,8 @@
 ghost use Rattle.std.specs.Prelude.{◌≡◌, ◌+◌, ◌<◌, ◌≤◌, length, Err, IfOk, IfErr, IsOkAnd, List, ℕ};
 ghost use Rattle.der_reader.specs.Elem.{BeginsWith, Element, element_of};
 ghost use Rattle.der_reader.specs.Unreadable.{Unreadable};
-ghost use Rattle.der_reader.specs.Next.{content_at, header_at, next_at, next_view, pair_at, pair_view, sole_at, sole_view};
+ghost use Rattle.der_reader.specs.Next.{content_at, header_at, next_at, next_view, pair_at, pair_view, sole_at};
+ghost use Rattle.der_reader.specs.Next.{sole_view};
 
 use crate::fault::DerFault;
 use crate::tags::SEQUENCE;
@@ -78,7 +79,8 @@ impl<'a> Der<'a> {
         }
     }
 
-    /// The two elements of the one SEQUENCE that `bytes` are; another tag, more elements or bytes left over are `VALUE` at 0.
+    /// The two elements of the one SEQUENCE that `bytes` are; another tag, more elements or bytes left over are `VALUE`
+    /// at 0.
     #[tactic(auto, unfolding(crate::specs::Next::pair_at))]
     pub fn pair(bytes: &'a [u8]) -> Result<(Der<'a>, Der<'a>), DerFault>
         ensures exact { pair_view result ≡ pair_at bytes.now }

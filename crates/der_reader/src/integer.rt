@@ -1,6 +1,7 @@
 //! INTEGERs that aren't negative (X.690, section 8.3).
 
-ghost use Rattle.std.specs.Prelude.{◌≡◌, ℕ, ◌+◌, ◌-◌, ◌*◌, ◌^◌, ◌<◌, ◌≤◌, List, ◌++◌, length, take, replicate, IfOk, IfErr, IsOkAnd, Ok, Err, Some, None, nat_lt, if◌then◌else◌};
+ghost use Rattle.std.specs.Prelude.{◌≡◌, ℕ, ◌+◌, ◌-◌, ◌*◌, ◌^◌, ◌<◌, ◌≤◌, List, ◌++◌, length, take, replicate, IfOk};
+ghost use Rattle.std.specs.Prelude.{IfErr, IsOkAnd, Ok, Err, Some, None, nat_lt, if◌then◌else◌};
 ghost use Rattle.der_reader.specs.Fault.{bad_value};
 ghost use Rattle.der_reader.specs.Integer.{IntegerText, big_endian, is_integer_text, magnitude, scalar_of, unsigned_of};
 

@@ -10,8 +10,8 @@ use crate::element::Der;
 use crate::fault::DerFault;
 
 impl<'a> Der<'a> {
-    /// The first element of `bytes`, if it has this tag, and what comes after it. If there are no bytes or the first element has
-    /// another tag, the answer is None and all bytes.
+    /// The first element of `bytes`, if it has this tag, and what comes after it. If there are no bytes or the first
+    /// element has another tag, the answer is None and all bytes.
     #[tactic(auto, unfolding(crate::specs::Next::optional_at))]
     pub fn optional(bytes: &'a [u8], tag: u8) -> Result<(Option<Der<'a>>, &'a [u8]), DerFault>
         ensures exact { optional_view result ≡ optional_at tag bytes.now }

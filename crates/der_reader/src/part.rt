@@ -53,10 +53,11 @@ pub struct Item<'a> {
 }
 
 impl<'a> Part<'a> {
-    ghost use Rattle.der_reader.specs.Part.{item_at, element_at, end_at, part_of, item_of, item_view, end_of, content_end};
+    ghost use Rattle.der_reader.specs.Part.{item_at, element_at, end_at, part_of, item_of, item_view, end_of};
+    ghost use Rattle.der_reader.specs.Part.{content_end};
 
-    /// The element that the part begins with. One that can't be read is `DER` at the place of its fault, which is the part's
-    /// end if the element is cut short.
+    /// The element that the part begins with. One that can't be read is `DER` at the place of its fault, which is the
+    /// part's end if the element is cut short.
     #[tactic(auto, unfolding(crate::specs::Part::item_at), using(crate::proofs::PartLaws::element_sizes))]
     pub fn item(&self) -> Result<Item<'a>, Fault>
         ensures exact { item_view result ≡ item_at (part_of self.now) }

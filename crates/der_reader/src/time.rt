@@ -2,7 +2,8 @@
 
 ghost use Rattle.std.specs.Prelude.{◌≡◌, ℕ, ℤ, ◌+◌, ◌*◌, ◌<◌, ◌≤◌, IfOk, IfErr, Ok};
 ghost use Rattle.der_reader.specs.Fault.{bad_value};
-ghost use Rattle.der_reader.specs.Time.{TimeText, generalized_moment, moment_at, moment_of, time_of, two_front, two_view, utc_moment};
+ghost use Rattle.der_reader.specs.Time.{TimeText, generalized_moment, moment_at, moment_of, time_of, two_front};
+ghost use Rattle.der_reader.specs.Time.{two_view, utc_moment};
 
 use crate::element::Der;
 use crate::fault::DerFault;

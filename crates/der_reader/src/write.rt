@@ -1,6 +1,7 @@
 //! One DER element after what was written before (X.690, sections 8.1.2, 8.1.3 and 10.1).
 
-ghost use Rattle.std.specs.Prelude.{◌≡◌, ◌≢◌, ◌+◌, ◌≤◌, ◌<◌, ◌++◌, ◌∷◌, [], length, vec_len, vec_capacity, bit_and, OnOk, OnErr, IfOk, IsOk};
+ghost use Rattle.std.specs.Prelude.{◌≡◌, ◌≢◌, ◌+◌, ◌≤◌, ◌<◌, ◌++◌, ◌∷◌, [], length, vec_len, vec_capacity, bit_and};
+ghost use Rattle.std.specs.Prelude.{OnOk, OnErr, IfOk, IsOk};
 ghost use Rattle.std.specs.Vec.{VecUnchanged};
 ghost use Rattle.der_reader.specs.Elem.{element_text, length_text};
 ghost use Rattle.der_reader.specs.Integer.{integer_content};
@@ -19,7 +20,8 @@ pub fn put(out: &mut Vec<u8>, tag: u8, content: &[u8]) -> Result<(), Memory>
     ensures ok { OnOk result (AddsElement out.old.items out.new.items tag content.now) }
     ensures reads_back { OnOk result (ReadsBack out.old.items out.new.items tag content.now) }
     ensures text { OnOk result (out.new.items ≡ out.old.items ++ element_text tag content.now) }
-    ensures short { OnOk result (length content.now < 128 → length out.new.items ≡ length out.old.items + (2 + length content.now)) }
+    ensures short { OnOk result (length content.now < 128
+        → length out.new.items ≡ length out.old.items + (2 + length content.now)) }
     ensures err { OnErr result (VecUnchanged out.old out.new) }
     ensures err_capacity { OnErr result (vec_capacity out.new ≡ vec_capacity out.old) }
 {

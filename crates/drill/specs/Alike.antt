@@ -16,5 +16,6 @@ pub record LegalWhole (world : World) (config : JudgeConfig) (rounds : List Roun
 
 -- by the same settings, on however many workers, in worlds in which the same is said of each thing
 abbrev pub OneSummary : Type 0
-OneSummary = (world same : World) (config other : JudgeConfig) (rounds others : List Round) → SayTheSame world same → config.settings ≡ other.settings → calls_in rounds ≡ calls_in others
-    → LegalWhole world config rounds → LegalWhole same other others → summary (outcomes_in rounds) ≡ summary (outcomes_in others)
+OneSummary = (world same : World) (config other : JudgeConfig) (rounds others : List Round) → SayTheSame world same
+    → config.settings ≡ other.settings → calls_in rounds ≡ calls_in others → LegalWhole world config rounds
+    → LegalWhole same other others → summary (outcomes_in rounds) ≡ summary (outcomes_in others)

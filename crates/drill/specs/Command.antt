@@ -18,10 +18,12 @@ abbrev pub AreSilent : List Batch → List Batch → Type 0
 AreSilent [] [] = Unit {0}
 AreSilent [] (said ∷ others) = ⊥
 AreSilent (batch ∷ batches) [] = ⊥
-AreSilent (batch ∷ batches) (said ∷ others) = (batch.calls ≡ said.calls) × (batch.answer.text ≡ []) × (batch.answer.well ≡ true) × AreSilent batches others
+AreSilent (batch ∷ batches) (said ∷ others) =
+    (batch.calls ≡ said.calls) × (batch.answer.text ≡ []) × (batch.answer.well ≡ true) × AreSilent batches others
 
 -- the batches were judged as rounds, and what came of their calls was counted
-pub record DrillBehind (first now : DrillCommand) (before counts : Counts) (told : Option Files) (batches : List Batch) : Type 0 where
+pub record DrillBehind (first now : DrillCommand) (before counts : Counts) (told : Option Files)
+    (batches : List Batch) : Type 0 where
   -- the batches, as they would be reported
   pub said : List Batch
   pub silent : AreSilent batches said
@@ -30,7 +32,8 @@ pub record DrillBehind (first now : DrillCommand) (before counts : Counts) (told
   pub total : now.total ≡ first.total
 
 -- only memory stops a run
-pub record DrillStopped (first : DrillCommand) (before counts : Counts) (told : Option Files) (batches : List Batch) (calls : List Entry) (stop : AnswerError) : Type 0 where
+pub record DrillStopped (first : DrillCommand) (before counts : Counts) (told : Option Files) (batches : List Batch)
+    (calls : List Entry) (stop : AnswerError) : Type 0 where
   pub said : List Batch
   pub silent : AreSilent batches said
   pub stopped : RoundsStopped first.verifier before counts told said calls stop
@@ -39,13 +42,15 @@ pub record DrillStopped (first : DrillCommand) (before counts : Counts) (told : 
 abbrev pub closing_text : Counted → ℕ → List ℕ
 closing_text counts total = if counts.calls == total then summary_of counts else []
 
-pub record DrillClosed (first now : DrillCommand) (before counts : Counts) (told : Option Files) (batches : List Batch) (text : List ℕ) : Type 0 where
+pub record DrillClosed (first now : DrillCommand) (before counts : Counts) (told : Option Files) (batches : List Batch)
+    (text : List ℕ) : Type 0 where
   pub behind : DrillBehind first now before counts told batches
   pub text_is : text ≡ closing_text now.counts now.total
 
 -- ---- one round
 
-pub record OneCounted (judged : Entry → Outcome → Type 0) (config : JudgeConfig) (chains : ChainFiles) (before now : JudgeState) (counts counts_now : Counted) (calls : List Entry) : Type 0 where
+pub record OneCounted (judged : Entry → Outcome → Type 0) (config : JudgeConfig) (chains : ChainFiles)
+    (before now : JudgeState) (counts counts_now : Counted) (calls : List Entry) : Type 0 where
   pub outcomes : List Outcome
   pub round : RoundJudged judged config chains before now calls outcomes
   pub moves : Moves before now calls

@@ -7,7 +7,8 @@ use Rattle.verify_service.specs.Adding.{is_valid}
 use Rattle.drill.specs.declared.counts.Counts.{Counts}
 
 abbrev pub no_counts : Counts
-no_counts = record { calls = 0; valid = 0; replays = 0; refused_403 = 0; refused_428 = 0; refused_437 = 0; refused_438 = 0 }
+no_counts =
+    record { calls = 0; valid = 0; replays = 0; refused_403 = 0; refused_428 = 0; refused_437 = 0; refused_438 = 0 }
 
 -- one more, if this is so
 abbrev pub more_if : Bool → ℕ → ℕ

@@ -35,7 +35,8 @@ world_of files = world_by files.world shelf.files (held_says files.answers)
 abbrev pub AnswersIn : DrillFiles → Entry → Outcome → Type 0
 AnswersIn files = Answers (world_of files) drill_settings
 
--- The calls of the drill were judged in rounds of 256 on so many workers, by what its files say, and none was set aside.
+-- The calls of the drill were judged in rounds of 256 on so many workers, by what its files say, and none was set
+-- aside.
 pub record JudgedDrill (seed count workers : ℕ) (outcomes : List Outcome) : Type 0 where
   pub files : DrillFiles
   pub files_are : FilesOf seed count files
@@ -67,7 +68,8 @@ pub record WroteSummary (seed count workers : ℕ) (written written_now : Option
   pub reported : Appends written written_now text
 
 -- 4: the sink failed, and a prefix of what was to be written was written
-pub record WroteFront (seed count workers : ℕ) (written written_now : Option (List ℕ)) (faults faults_now : ℕ) : Type 0 where
+pub record WroteFront (seed count workers : ℕ) (written written_now : Option (List ℕ))
+    (faults faults_now : ℕ) : Type 0 where
   pub failed : Rose faults faults_now
   pub text : List ℕ
   pub may : MaySumUp seed count workers text
@@ -82,7 +84,8 @@ pub record WroteShort (seed count workers : ℕ) (written written_now : Option (
   pub reported : Appends written written_now (text ++ memory_line)
 
 -- it is one of these, whatever came of the calls
-pub record DrillRan (seed count workers : ℕ) (written written_now : Option (List ℕ)) (faults faults_now status : ℕ) : Type 0 where
+pub record DrillRan (seed count workers : ℕ) (written written_now : Option (List ℕ))
+    (faults faults_now status : ℕ) : Type 0 where
   pub known : (status ≡ 0) ⊎ ((status ≡ 4) ⊎ (status ≡ 6))
   pub done : status ≡ 0 → WroteSummary seed count workers written written_now
   pub sink_failed : status ≡ 4 → WroteFront seed count workers written written_now faults faults_now

@@ -1,5 +1,6 @@
--- The summary of judged calls: how many there are, how many are valid and how many are replays, and of the others, which were refused, how many
--- by each code of the response (this project's own rule; RFC 8224, section 6.2.2, for the codes 428, 437 and 438).
+-- The summary of judged calls: how many there are, how many are valid and how many are replays, and of the others,
+-- which were refused, how many by each code of the response (this project's own rule; RFC 8224, section 6.2.2, for the
+-- codes 428, 437 and 438).
 use Rattle.std.specs.Prelude.{◌≡◌, ℕ, ◌+◌, ◌==◌, Bool, true, false, List, [], ◌∷◌, ◌++◌, length, codes, decimal}
 use Rattle.call_log.specs.Entry.{Entry}
 use Rattle.replay_law.specs.Log.{RowsLegal}
@@ -69,9 +70,10 @@ summary outcomes =
 
 -- ---- one judgement of calls
 
--- Each of the calls is judged in this world and none is set aside; and cut into these rounds, of the calls that pass with one ticket exactly one is
--- valid.
-pub record JudgedWhole (world : World) (settings : Settings) (calls : List Entry) (outcomes : List Outcome) : Type 0 where
+-- Each of the calls is judged in this world and none is set aside; and cut into these rounds, of the calls that pass
+-- with one ticket exactly one is valid.
+pub record JudgedWhole (world : World) (settings : Settings) (calls : List Entry)
+    (outcomes : List Outcome) : Type 0 where
   pub each : EachJudged settings world calls outcomes
   pub read : NoneUnread outcomes
   pub asked : NoneUnasked outcomes

@@ -15,7 +15,8 @@ use std::alloc::{AllocError, Global};
 use std::thread::Threads;
 use stir_outside::Shelf;
 
-/// Judges the calls of a log and counts what came of them. It writes nothing of a batch; the text that closes the report is the summary.
+/// Judges the calls of a log and counts what came of them. It writes nothing of a batch; the text that closes the
+/// report is the summary.
 #[derive(Drop)]
 pub(crate) struct DrillCommand<'a> {
     /// What judges a round.
@@ -37,9 +38,13 @@ impl<'a> DrillCommand<'a> {
     ) -> Answered
         requires follow { Follow self.old.verifier.service.number self.old.verifier.service.moment calls.now }
         requires trusts { TrustsHeld self.old.verifier (S.files shelf.old) }
-        ensures counted { IfOk result (λ answer. (answer.text ≡ []) × (answer.well ≡ true) × OneCounted (AnswersBy (basis_of self.old.verifier) (S.files shelf.old)) (config_of (basis_of self.old.verifier)) self.old.verifier.service.chains (state_of self.old.verifier (S.counts shelf.old)) (state_of self.new.verifier (S.counts shelf.new)) self.old.counts self.new.counts calls.now) }
+        ensures counted { IfOk result (λ answer. (answer.text ≡ []) × (answer.well ≡ true) × OneCounted
+            (AnswersBy (basis_of self.old.verifier) (S.files shelf.old)) (config_of (basis_of self.old.verifier))
+            self.old.verifier.service.chains (state_of self.old.verifier (S.counts shelf.old))
+            (state_of self.new.verifier (S.counts shelf.new)) self.old.counts self.new.counts calls.now) }
         ensures memory { IfErr result (λ stop. stop ≡ AnswerError.Memory) }
-        ensures most { (S.counts shelf.new).reads ≤ (S.counts shelf.old).reads + length (texts_in self.old.verifier.service calls.now) }
+        ensures most { (S.counts shelf.new).reads ≤ (S.counts shelf.old).reads
+            + length (texts_in self.old.verifier.service calls.now) }
         ensures trusts { TrustsHeld self.new.verifier (S.files shelf.new) }
         ensures same { basis_of self.new.verifier ≡ basis_of self.old.verifier }
         ensures total { self.new.total ≡ self.old.total }
@@ -63,9 +68,11 @@ impl<'a> LogCommand for DrillCommand<'a> {
 
     ghost behind = { λ first before now counts files batches. DrillBehind first now before counts files batches };
 
-    ghost stopped = { λ first before now counts files batches calls stop. DrillStopped first before counts files batches calls stop };
+    ghost stopped = { λ first before now counts files batches calls stop.
+        DrillStopped first before counts files batches calls stop };
 
-    ghost closed = { λ first before now counts files batches text. DrillClosed first now before counts files batches text };
+    ghost closed = { λ first before now counts files batches text.
+        DrillClosed first now before counts files batches text };
 
     ghost stands = { λ command counts files passed. RoundsStand command.verifier files passed };
 

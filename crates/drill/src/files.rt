@@ -26,7 +26,8 @@ pub struct DrillFiles {
     pub answers: Answers,
 }
 
-/// Reads the files of the drill of this seed, with so many calls. They are in their grammars, so that `AllocError` is the only error.
+/// Reads the files of the drill of this seed, with so many calls. They are in their grammars, so that `AllocError` is
+/// the only error.
 pub(crate) fn read_files(
     alloc: Global,
     seed: u64,

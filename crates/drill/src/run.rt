@@ -37,9 +37,11 @@ struct Ready {
     shelf: DrillShelf,
 }
 
-/// Makes the log of the seed with so many calls, judges it on so many workers by the files that are made with it, and writes the summary.
+/// Makes the log of the seed with so many calls, judges it on so many workers by the files that are made with it, and
+/// writes the summary.
 ///
-/// The status is 0 if the summary was written, 4 if a write failed, and 6 if memory ran out. There is no other, whatever came of the calls.
+/// The status is 0 if the summary was written, 4 if a write failed, and 6 if memory ran out. There is no other,
+/// whatever came of the calls.
 pub fn run_drill<R: Threads + Sync, O: Sink>(
     rt: &R,
     alloc: Global,
@@ -51,7 +53,8 @@ pub fn run_drill<R: Threads + Sync, O: Sink>(
     requires few { count ≤ 100000 }
     requires some { 1 ≤ workers }
     requires most { workers ≤ 8 }
-    ensures { DrillRan seed count workers (O.written sink.old) (O.written sink.new) (O.faults sink.old) (O.faults sink.new) result }
+    ensures { DrillRan seed count workers (O.written sink.old) (O.written sink.new) (O.faults sink.old)
+        (O.faults sink.new) result }
 {
     log_law();
     one_log();

@@ -1,5 +1,5 @@
--- The grammar of an Identity value (RFC 8224, section 4.1, with this project's own limits), as a relation between the value
--- and its four parts:
+-- The grammar of an Identity value (RFC 8224, section 4.1, with this project's own limits), as a relation between the
+-- value and its four parts:
 --     value = digest W ";" W "info" W "=" W "<" uri ">" *( W ";" W param )
 --     param = name [ W "=" W ( bare / quoted ) ]
 -- W is any spaces and tabs. Names are compared without case. A parameter alg or ppt has a value and comes at most once,
@@ -18,7 +18,8 @@ pub record Param : Type 0 where
 
 -- The text is the value itself, one or more bare bytes, or the value between quotes.
 abbrev pub ValueText : List ℕ → List ℕ → Type 0
-ValueText value text = ((text ≡ value) × Many is_bare_byte value) ⊎ ((text ≡ 34 ∷ (value ++ 34 ∷ [])) × Any is_quoted_byte value)
+ValueText value text =
+    ((text ≡ value) × Many is_bare_byte value) ⊎ ((text ≡ 34 ∷ (value ++ 34 ∷ [])) × Any is_quoted_byte value)
 
 -- the value of a parameter, if it has one, and then a text of N
 abbrev pub Valued : Option (List ℕ) → (List ℕ → Type 0) → List ℕ → Type 0

@@ -1,5 +1,5 @@
--- A text that can be the value of a header field as it is (RFC 3261, section 7.3.1): it is in one line, and neither begins nor
--- ends with a blank.
+-- A text that can be the value of a header field as it is (RFC 3261, section 7.3.1): it is in one line, and neither
+-- begins nor ends with a blank.
 use Rattle.std.specs.Prelude.{◌≡◌, ℕ, Bool, true, false, not, ◌==◌, List, [], ◌∷◌, reverse}
 use Rattle.std.specs.List.{list_all}
 use Rattle.text_grammar.specs.Bytes.{is_blank}

@@ -1,5 +1,5 @@
--- What an Identity value says, or where it stops being the beginning of one, as one function of its bytes. That this is what
--- the grammar says is shown by laws.
+-- What an Identity value says, or where it stops being the beginning of one, as one function of its bytes. That this is
+-- what the grammar says is shown by laws.
 use Rattle.std.specs.Prelude.{ℕ, ◌-◌, List, length, Result, Ok, Err}
 use Rattle.identity_header.specs.declared.field.FieldFault.{FieldFault}
 use Rattle.identity_header.specs.Parts.{Parts}

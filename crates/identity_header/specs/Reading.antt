@@ -1,5 +1,6 @@
 -- An Identity value as a reader on lists takes it: the parts, or the rest of the value from where it can't go on.
-use Rattle.std.specs.Prelude.{ℕ, zero, suc, List, [], ◌∷◌, length, take, Some, None, is_some, Ok, Err, ◌==◌, if◌then◌else◌, codes}
+use Rattle.std.specs.Prelude.{ℕ, zero, suc, List, [], ◌∷◌, length, take, Some, None, is_some, Ok, Err, ◌==◌}
+use Rattle.std.specs.Prelude.{if◌then◌else◌, codes}
 use Rattle.std.specs.List.{prefix_len}
 use Rattle.text_grammar.specs.Bytes.{is_blank, is_name_byte, is_word, is_uri_byte}
 use Rattle.text_grammar.specs.Reading.{Read, byte_at, word_at, skip, many_at, run_at}

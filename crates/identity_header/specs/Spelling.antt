@@ -1,5 +1,6 @@
 -- The one spelling in which a field is written, among those that the grammar allows (this project's own rule).
-use Rattle.std.specs.Prelude.{ℕ, Bool, not, ◌&&◌, ◌==◌, List, [], ◌∷◌, ◌++◌, length, Option, Some, None, if◌then◌else◌, codes}
+use Rattle.std.specs.Prelude.{ℕ, Bool, not, ◌&&◌, ◌==◌, List, [], ◌∷◌, ◌++◌, length, Option, Some, None, if◌then◌else◌}
+use Rattle.std.specs.Prelude.{codes}
 use Rattle.std.specs.List.{list_all}
 use Rattle.identity_header.specs.Parts.{Parts, is_bare_byte}
 
@@ -17,4 +18,5 @@ param_text name None = []
 param_text name (Some value) = name ++ value_text value
 
 unfoldable pub spelling : Parts → List ℕ
-spelling f = f.token ++ codes ";info=<" ++ f.info ++ codes ">" ++ param_text (codes ";alg=") f.alg ++ param_text (codes ";ppt=") f.ppt
+spelling f = f.token ++ codes ";info=<" ++ f.info ++ codes ">" ++ param_text (codes ";alg=") f.alg
+    ++ param_text (codes ";ppt=") f.ppt

@@ -46,8 +46,8 @@ impl<'a> Field<'a> {
 
     /// Reads the value of an Identity header field, in one pass. The value is shorter than 4,294,967,295 bytes.
     ///
-    /// A value outside the grammar is refused, and the fault tells the length of the longest prefix of the value with which a
-    /// value of the grammar begins.
+    /// A value outside the grammar is refused, and the fault tells the length of the longest prefix of the value with
+    /// which a value of the grammar begins.
     pub fn read(value: &'a [u8]) -> Result<Field<'a>, FieldFault>
         requires { length value.now < 4294967295 }
         ensures exact { result ≡ read value.now }
@@ -74,16 +74,18 @@ impl<'a> Field<'a> {
         }
     }
 
-    /// A field of these parts; None if a part is outside its row: the token 1 to 8192 digest bytes, the uri 1 to 2048 uri
-    /// bytes, and a value of `alg` or `ppt` any number of bytes that may be between quotes, also none.
+    /// A field of these parts; None if a part is outside its row: the token 1 to 8192 digest bytes, the uri 1 to 2048
+    /// uri bytes, and a value of `alg` or `ppt` any number of bytes that may be between quotes, also none.
     pub fn new(
         token: &'a [u8],
         info: &'a [u8],
         alg: Option<&'a [u8]>,
         ppt: Option<&'a [u8]>,
     ) -> Option<Field<'a>>
-        ensures made { IfSome result (λ f. f ≡ parts token.now info.now (option_copied alg.entry) (option_copied ppt.entry)) }
-        ensures exact { IsSome result ↔ InRows (parts token.now info.now (option_copied alg.entry) (option_copied ppt.entry)) }
+        ensures made { IfSome result
+            (λ f. f ≡ parts token.now info.now (option_copied alg.entry) (option_copied ppt.entry)) }
+        ensures exact { IsSome result
+            ↔ InRows (parts token.now info.now (option_copied alg.entry) (option_copied ppt.entry)) }
     {
         if !is_digest(token) {
             return None;
@@ -105,8 +107,9 @@ impl<'a> Field<'a> {
         })
     }
 
-    /// The text of the field: `token;info=<info>`, then `;alg=` and `;ppt=` if they are given, each bare if it is one or more
-    /// bare bytes and else between quotes. Reading it gives the same four parts. It fails only if memory runs out.
+    /// The text of the field: `token;info=<info>`, then `;alg=` and `;ppt=` if they are given, each bare if it is one
+    /// or more bare bytes and else between quotes. Reading it gives the same four parts. It fails only if memory runs
+    /// out.
     pub fn write(&self, alloc: Global) -> Result<Vec<u8>, Memory>
 
         // It is the one spelling of the parts.

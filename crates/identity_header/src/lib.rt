@@ -1,4 +1,5 @@
-//! One value of a SIP Identity header field (RFC 8224, section 4.1): the token, the place of its certificates, and `alg` and `ppt`.
+//! One value of a SIP Identity header field (RFC 8224, section 4.1): the token, the place of its certificates, and
+//! `alg` and `ppt`.
 //!
 //! ```text
 //! value   --Field::read-->   Field   --token, info, alg, ppt-->   views into the value
@@ -10,15 +11,16 @@
 //! let kind = field.ppt();                                   // Some of the bytes of `shaken`
 //! ```
 //!
-//! [`Field::read`] takes a value whose continuation lines are joined already, as `sip_message` hands it out. Names are compared without case, `alg`
-//! and `ppt` come at most once, and other parameters are passed over. A [`FieldFault`] has the place up to which the value could still have become
-//! one.
+//! [`Field::read`] takes a value whose continuation lines are joined already, as `sip_message` hands it out. Names are
+//! compared without case, `alg` and `ppt` come at most once, and other parameters are passed over. A [`FieldFault`] has
+//! the place up to which the value could still have become one.
 //!
-//! The token isn't looked into: its three parts are read by `passport_json`. Whether `info` is the URI in the token, and `ppt` its type, is asked by
-//! `passport_claims`.
+//! The token isn't looked into: its three parts are read by `passport_json`. Whether `info` is the URI in the token,
+//! and `ppt` its type, is asked by `passport_claims`.
 //!
-//! Proved: a value is accepted just if it is in the grammar, with exactly its four parts. The place of a fault is the length of the longest prefix
-//! with which some value begins. What is written is read back ([`field_law`]; `docs/dev/PROVED.md`, "Messages and PASSporTs").
+//! Proved: a value is accepted just if it is in the grammar, with exactly its four parts. The place of a fault is the
+//! length of the longest prefix with which some value begins. What is written is read back ([`field_law`];
+//! `docs/dev/PROVED.md`, "Messages and PASSporTs").
 //!
 //! Cases: section `identity` of `crates/vectors/stdin`.
 #![tactic(auto)]

@@ -1,5 +1,5 @@
--- What a call of the code gives, against what a definition gives. How a fault of the code is named by the definition is an argument:
--- `None` for running out of memory, which is always allowed.
+-- What a call of the code gives, against what a definition gives. How a fault of the code is named by the definition is
+-- an argument: `None` for running out of memory, which is always allowed.
 use Rattle.std.specs.Prelude.{◌≡◌, Option, Some, None, Result, Ok, Err}
 
 -- a fault other than running out of memory is the one that the definition gives

@@ -13,8 +13,8 @@ use Rattle.live_desk.specs.declared.claim.LiveClaim.TheVariants.{Won, Lost, Full
 use Rattle.live_desk.specs.declared.claiming.Place.{Place}
 use Rattle.live_desk.specs.declared.claiming.Place.TheVariants.{Set, Found, Full}
 
--- A ticket's code may be set at a slot: the seat has the ticket's codes of all levels before, and each slot at which the search
--- looks before has another code
+-- A ticket's code may be set at a slot: the seat has the ticket's codes of all levels before, and each slot at which
+-- the search looks before has another code
 pub record Ready (size : ℕ) (ticket : List ℕ) (level slot code : ℕ) (h : Holder) : Type 0 where
   pub parent : ℕ
   pub tries : ℕ
@@ -22,7 +22,8 @@ pub record Ready (size : ℕ) (ticket : List ℕ) (level slot code : ℕ) (h : H
   pub trail : Trail h.sets h.seen (pieces ticket) level parent
   pub few : tries < size
   pub here : slot ≡ turn size code tries
-  pub searched : (before : ℕ) → before < tries → (word : ℕ) × Has h.sets h.seen level (turn size code before) word × (word ≢ code)
+  pub searched : (before : ℕ) → before < tries
+      → (word : ℕ) × Has h.sets h.seen level (turn size code before) word × (word ≢ code)
 
 -- the word found was 0 and is the code now, or it joined what was seen
 pub record Exchanged (level slot code : ℕ) (ticket : List ℕ) (before after : Holder) (found : ℕ) : Type 0 where
@@ -45,9 +46,11 @@ pub record Passes (size level code tries : ℕ) (before after : Holder) : Type 0
 
 -- where a search of a claim ended, by what it set and saw
 abbrev pub Ended : ℕ → ℕ → ℕ → List ℕ → List SetWord → List SeenWord → Place → Type 0
-Ended size level code ticket sets seen (Set slot) = (slot < size) × (sets ≡ set_of level slot code ticket ∷ []) × ((e : SeenWord) → In e seen → e.word ≢ code)
+Ended size level code ticket sets seen (Set slot) =
+    (slot < size) × (sets ≡ set_of level slot code ticket ∷ []) × ((e : SeenWord) → In e seen → e.word ≢ code)
 Ended size level code ticket sets seen (Found slot) = (slot < size) × (sets ≡ []) × In (seen_of level slot code) seen
-Ended size level code ticket sets seen Full = (sets ≡ []) × ((slot : ℕ) → slot < size → (word : ℕ) × In (seen_of level slot word) seen × (word ≢ code))
+Ended size level code ticket sets seen Full =
+    (sets ≡ []) × ((slot : ℕ) → slot < size → (word : ℕ) × In (seen_of level slot word) seen × (word ≢ code))
 
 -- a search of a claim at one level
 pub record Searched (size level code : ℕ) (ticket : List ℕ) (before after : Holder) (place : Place) : Type 0 where
@@ -81,12 +84,13 @@ pub record Descended (size : ℕ) (ticket : List ℕ) (before after : Holder) (l
 
 -- how a claim ended, by what it set and saw
 abbrev pub ClaimEnded : ℕ → List ℕ → List SetWord → List SeenWord → LiveClaim → Type 0
-ClaimEnded size ticket sets seen Won = (parent slot : ℕ) × Trail sets seen (pieces ticket) 5 parent × In (set_of 5 slot (code_at parent ticket 5) ticket) sets
+ClaimEnded size ticket sets seen Won = (parent slot : ℕ) × Trail sets seen (pieces ticket) 5 parent
+    × In (set_of 5 slot (code_at parent ticket 5) ticket) sets
     × ((e : SeenWord) → In e seen → e.level ≡ 5 → e.word ≢ code_at parent ticket 5)
-ClaimEnded size ticket sets seen Lost = (parent slot : ℕ) × Trail sets seen (pieces ticket) 5 parent × In (seen_of 5 slot (code_at parent ticket 5)) seen
-    × ((e : SetWord) → In e sets → e.level < 5)
-ClaimEnded size ticket sets seen (FullLevel n) = (level : ℕ) × (n ≡ level + 1) × (level < 6) × FullAt size ticket sets seen level
-    × ((e : SetWord) → In e sets → e.level < level) × ((e : SeenWord) → In e seen → e.level ≤ level)
+ClaimEnded size ticket sets seen Lost = (parent slot : ℕ) × Trail sets seen (pieces ticket) 5 parent
+    × In (seen_of 5 slot (code_at parent ticket 5)) seen × ((e : SetWord) → In e sets → e.level < 5)
+ClaimEnded size ticket sets seen (FullLevel n) = (level : ℕ) × (n ≡ level + 1) × (level < 6) × FullAt size ticket sets
+    seen level × ((e : SetWord) → In e sets → e.level < level) × ((e : SeenWord) → In e seen → e.level ≤ level)
 
 -- a claim, by cases
 pub record ClaimedExactly (size : ℕ) (ticket : List ℕ) (before after : Holder) (answer : LiveClaim) : Type 0 where

@@ -10,7 +10,8 @@ use Rattle.live_desk.specs.declared.view.SeenWord.{SeenWord}
 use Rattle.live_desk.specs.declared.claim.LiveClaim.{LiveClaim}
 use Rattle.live_desk.specs.declared.claim.LiveClaim.TheVariants.{Won, Lost, Full}
 
--- the levels at which a claim with this answer may have set words: before the last if it is Lost, and before the full level
+-- the levels at which a claim with this answer may have set words: before the last if it is Lost, and before the full
+-- level
 abbrev pub BeforeFull : LiveClaim → ℕ → Type 0
 BeforeFull Won level = level < 6
 BeforeFull Lost level = level < 5
@@ -32,7 +33,8 @@ pub record Claimed (size : ℕ) (ticket : List ℕ) (before after : Holder) (ans
   -- Lost: it found the ticket's code at the last level
   pub lost : (answer ≡ Lost) ↔ FoundLast ticket sets seen
   -- Full: it found each word of that level nonzero, and none of them the ticket's code
-  pub full : (n : ℕ) → (answer ≡ Full n) ↔ ((level : ℕ) × (n ≡ level + 1) × (level < 6) × FullAt size ticket sets seen level)
+  pub full : (n : ℕ)
+      → (answer ≡ Full n) ↔ ((level : ℕ) × (n ≡ level + 1) × (level < 6) × FullAt size ticket sets seen level)
   -- it set and found few words, and made few steps, loads among them
   pub steps : length sets + length seen ≤ 6 * size
   pub made : after.steps ≤ before.steps + 6 * size

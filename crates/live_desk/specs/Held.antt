@@ -19,7 +19,8 @@ pub record Held (size : ℕ) (ticket : List ℕ) (before after : Holder) (answer
   -- true: it found the ticket's code at all six levels
   pub found : (answer ≡ true) ↔ ((slot : ℕ) × Trail [] seen (pieces ticket) 6 slot)
   -- false: at some level a word of the search was 0, or each word was found without the ticket's code
-  pub not_found : (answer ≡ false) ↔ ((level : ℕ) × (level < 6) × (BlankAt size ticket seen blanks level ⊎ FullAt size ticket [] seen level))
+  pub not_found : (answer ≡ false)
+      ↔ ((level : ℕ) × (level < 6) × (BlankAt size ticket seen blanks level ⊎ FullAt size ticket [] seen level))
   -- it found few words and zeros, and made few steps
   pub steps : length seen + length blanks ≤ 6 * size
   pub made : after.steps ≤ before.steps + 6 * size

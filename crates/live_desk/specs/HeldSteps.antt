@@ -1,4 +1,5 @@
--- How a look for a ticket goes on from step to step, in the words of the seat's holder: the exact reading beside `Held`.
+-- How a look for a ticket goes on from step to step, in the words of the seat's holder: the exact reading beside
+-- `Held`.
 use Rattle.std.specs.Prelude.{Bool, true, false, ◌⊎◌, ◌≡◌, ◌≢◌, ℕ, ◌+◌, ◌*◌, ◌<◌, ◌≤◌, List, [], ◌∷◌, length}
 use Rattle.live_desk.specs.Lists.{In}
 use Rattle.live_desk.specs.Rule.{turn}
@@ -19,9 +20,11 @@ pub record Loaded (level slot : ℕ) (before after : Holder) (found : ℕ) : Typ
 -- where a look at one level ended, by what it saw
 abbrev pub LookEnded : ℕ → ℕ → ℕ → List SeenWord → List Blank → Sight → Type 0
 LookEnded size level code seen blanks (Found slot) = (slot < size) × (blanks ≡ []) × In (seen_of level slot code) seen
-LookEnded size level code seen blanks Clear = (tries : ℕ) × (tries < size) × In (blank_of level (turn size code tries)) blanks
-    × ((n : ℕ) → n < tries → (word : ℕ) × In (seen_of level (turn size code n) word) seen × (word ≢ code)) × ((e : SeenWord) → In e seen → e.word ≢ code)
-LookEnded size level code seen blanks Missing = (slot : ℕ) → slot < size → (word : ℕ) × In (seen_of level slot word) seen × (word ≢ code)
+LookEnded size level code seen blanks Clear =
+    (tries : ℕ) × (tries < size) × In (blank_of level (turn size code tries)) blanks × ((n : ℕ) → n < tries → (word : ℕ)
+    × In (seen_of level (turn size code n) word) seen × (word ≢ code)) × ((e : SeenWord) → In e seen → e.word ≢ code)
+LookEnded size level code seen blanks Missing = (slot : ℕ) → slot < size
+    → (word : ℕ) × In (seen_of level slot word) seen × (word ≢ code)
 
 -- a look at one level
 pub record Looked (size level code : ℕ) (before after : Holder) (sight : Sight) : Type 0 where
@@ -45,7 +48,8 @@ pub record Follows (size : ℕ) (ticket : List ℕ) (level parent : ℕ) (before
 abbrev pub HeldEnded : ℕ → List ℕ → List SeenWord → List Blank → Bool → Type 0
 HeldEnded size ticket seen blanks true = (slot : ℕ) × Trail [] seen (pieces ticket) 6 slot × (blanks ≡ [])
 HeldEnded size ticket seen blanks false = (level : ℕ) × (level < 6) × ((e : SeenWord) → In e seen → e.level ≤ level)
-    × (((b : BlankAt size ticket seen blanks level) × ((e : SeenWord) → In e seen → e.level ≡ level → e.word ≢ code_at b.parent ticket level)) ⊎ FullAt size ticket [] seen level)
+    × (((b : BlankAt size ticket seen blanks level) × ((e : SeenWord) → In e seen → e.level ≡ level
+    → e.word ≢ code_at b.parent ticket level)) ⊎ FullAt size ticket [] seen level)
 
 -- a look, by cases
 pub record HeldExactly (size : ℕ) (ticket : List ℕ) (before after : Holder) (answer : Bool) : Type 0 where

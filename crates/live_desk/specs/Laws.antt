@@ -1,5 +1,5 @@
--- What the rule of a live desk means for tickets (this project's own rule). A ticket is won at the last of six levels, which are counted
--- from 0.
+-- What the rule of a live desk means for tickets (this project's own rule). A ticket is won at the last of six levels,
+-- which are counted from 0.
 use Rattle.std.specs.Prelude.{◌≡◌, ℕ, suc, ◌==◌, ◌≤◌, Bool, false, List, take, if◌then◌else◌}
 use Rattle.std.specs.Str.{bytes_eq}
 use Rattle.atomic_table.specs.Table.{State}
@@ -27,4 +27,5 @@ first_pieces level ticket = take (suc level) (pieces ticket)
 
 -- Over any words and views that meet the rule, a ticket is among the won ones of all views together at most once
 abbrev pub WonOnce : Type 0
-WonOnce = (size : ℕ) (s : State (List ℕ) View) → Holds size s → (ticket : List ℕ) → total (λ (v : View). won ticket v.sets) s.views ≤ 1
+WonOnce = (size : ℕ) (s : State (List ℕ) View) → Holds size s → (ticket : List ℕ)
+    → total (λ (v : View). won ticket v.sets) s.views ≤ 1

@@ -12,8 +12,8 @@ abbrev pub number_after : ℕ → List ℕ → ℕ
 number_after n [] = n
 number_after n (byte ∷ bytes) = number_after (n * 256 + byte) bytes
 
--- A number of 256 bits in five pieces of 43 bits and a last one of 41, most significant first. 8796093022208 is 2^43, and
--- 2199023255552 is 2^41
+-- A number of 256 bits in five pieces of 43 bits and a last one of 41, most significant first. 8796093022208 is 2^43,
+-- and 2199023255552 is 2^41
 abbrev pub cut : ℕ → List ℕ
 cut n =
     n / 2199023255552 / 8796093022208 / 8796093022208 / 8796093022208 / 8796093022208
@@ -33,8 +33,8 @@ pub record AreCut (n : ℕ) (ps : List ℕ) : Type 0 where
   pub six : length ps ≡ 6
   pub small : (level : ℕ) → slice_index ps level < 8796093022208
   pub last : slice_index ps 5 < 2199023255552
-  pub sum : n ≡ ((((slice_index ps 0 * 8796093022208 + slice_index ps 1) * 8796093022208 + slice_index ps 2) * 8796093022208 + slice_index ps 3) * 8796093022208
-      + slice_index ps 4) * 2199023255552 + slice_index ps 5
+  pub sum : n ≡ ((((slice_index ps 0 * 8796093022208 + slice_index ps 1) * 8796093022208 + slice_index ps 2)
+      * 8796093022208 + slice_index ps 3) * 8796093022208 + slice_index ps 4) * 2199023255552 + slice_index ps 5
 
 -- The pieces of a ticket, one after the other, are the ticket
 abbrev pub PiecesAreTheTicket : Type 0

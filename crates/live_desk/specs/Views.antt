@@ -1,5 +1,5 @@
--- The rule of a live desk over its words and the views of its seats, between any two steps (this project's own rule). Levels and slots
--- are counted from 0.
+-- The rule of a live desk over its words and the views of its seats, between any two steps (this project's own rule).
+-- Levels and slots are counted from 0.
 use Rattle.std.specs.Prelude.{◌≡◌, ◌≢◌, ℕ, suc, ◌+◌, ◌*◌, ◌==◌, ◌<◌, Bool, List, [], length, take, slice_index}
 use mathlib.Core.Option.{some}
 use lib.ListN.{get_elem?}
@@ -31,7 +31,8 @@ pub record Stands (size : ℕ) (words : List ℕ) (level slot word : ℕ) : Type
   pub is : word_at size words level slot ≡ word
   pub some : word ≢ 0
 
--- the word was set for the ticket: it is the word of its slot, and the slot stands for the ticket's pieces up to its level
+-- the word was set for the ticket: it is the word of its slot, and the slot stands for the ticket's pieces up to its
+-- level
 pub record Marks (size : ℕ) (words : List ℕ) (e : SetWord) : Type 0 where
   pub stands : Stands size words e.level e.slot e.word
   pub reading : reads size words e.level e.slot ≡ take (suc e.level) (pieces e.ticket)
@@ -60,7 +61,8 @@ pub record Holds {S : Type 0} (size : ℕ) (s : State S View) : Type 0 where
   -- each word that was found equals the present one
   pub seen : (id : ℕ) (v : View) → get_elem? s.views id ≡ some v → AllStand size s.words v.seen
   -- a nonzero word is in the sets of exactly one view, once, and a 0 in none
-  pub one_setter : (place : ℕ) → total (λ (v : View). count (at_place size place) v.sets) s.views ≡ setters (slice_index s.words place)
+  pub one_setter : (place : ℕ)
+      → total (λ (v : View). count (at_place size place) v.sets) s.views ≡ setters (slice_index s.words place)
   -- shares add up to 1
   pub shares : total (λ (v : View). v.share) s.views ≡ whole
   -- a view with a share knows the desk's size

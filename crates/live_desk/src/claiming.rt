@@ -27,12 +27,13 @@ pub enum Place {
 }
 
 impl Live {
-    /// Claims a ticket. `Won` comes exactly if this claim set the ticket's word at level 6. `Lost` comes exactly if it found the
-    /// ticket's code there. `Full` comes exactly if it found each word of the level that it names nonzero and different from the
-    /// ticket's code. What it sets is for its own ticket and, if it is `Full`, is at levels before the full one.
+    /// Claims a ticket. `Won` comes exactly if this claim set the ticket's word at level 6. `Lost` comes exactly if it
+    /// found the ticket's code there. `Full` comes exactly if it found each word of the level that it names nonzero and
+    /// different from the ticket's code. What it sets is for its own ticket and, if it is `Full`, is at levels before
+    /// the full one.
     ///
-    /// It takes no memory and waits for nobody, and it makes at most six times as many steps as a level has slots. Of several claims of
-    /// a ticket any may win.
+    /// It takes no memory and waits for nobody, and it makes at most six times as many steps as a level has slots. Of
+    /// several claims of a ticket any may win.
     pub fn claim(&self, seat: &mut LiveSeat, ticket: &[u8; 32]) -> LiveClaim
         requires desk { seat.old.desk ≡ self.now }
         ensures { Claimed self.now.size ticket.now seat.old seat.new result }
@@ -67,8 +68,8 @@ impl Live {
         }
     }
 
-    /// Sets or finds the ticket's codes at all levels but the last: the ticket's slot at the last of these, or, as an error, the full
-    /// level, counted from 0.
+    /// Sets or finds the ticket's codes at all levels but the last: the ticket's slot at the last of these, or, as an
+    /// error, the full level, counted from 0.
     fn descend(
         &self,
         seat: &mut LiveSeat,
@@ -78,7 +79,8 @@ impl Live {
         requires desk { seat.old.desk ≡ self.now }
         requires parts { parts.now ≡ pieces ticket.now }
         ensures ok { IfOk result (λ parent. Descends self.now.size ticket.now 5 parent seat.old seat.new) }
-        ensures full { IfErr result (λ level. (level < 5) × Descended self.now.size ticket.now seat.old seat.new level) }
+        ensures full { IfErr result
+            (λ level. (level < 5) × Descended self.now.size ticket.now seat.old seat.new level) }
     {
         let _size = &self.size;
         let mut parent = 0;
@@ -93,7 +95,8 @@ impl Live {
         Ok(parent)
     }
 
-    /// Searches one level, counted from 0, for a ticket's code, from the slot that the code names on, and sets the first word that is 0.
+    /// Searches one level, counted from 0, for a ticket's code, from the slot that the code names on, and sets the
+    /// first word that is 0.
     fn settle(&self, seat: &mut LiveSeat, ticket: &[u8; 32], level: u64, code: u64) -> Place
         requires desk { seat.old.desk ≡ self.now }
         requires level { level < 6 }

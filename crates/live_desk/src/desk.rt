@@ -28,11 +28,13 @@ impl Model for Live {
 
     ghost view = { λ live. record { table = live.table.shared.table_id; size = live.size } };
 
-    ghost invariant = { λ live. (live.table.shared.key ≡ live.size) × (live.table.shared.table_id.words ≡ 6 * live.size) × (1 ≤ live.size) × (live.size ≤ 1048576) };
+    ghost invariant = { λ live. (live.table.shared.key ≡ live.size) × (live.table.shared.table_id.words ≡ 6 * live.size)
+        × (1 ≤ live.size) × (live.size ≤ 1048576) };
 }
 
-/// The right to claim on one desk, with all that was set and found with it, and a share of the desk. It has no bytes, and may
-/// go to another thread. A seat that is dropped takes its share with it, so that no other has the whole share again.
+/// The right to claim on one desk, with all that was set and found with it, and a share of the desk. It has no bytes,
+/// and may go to another thread. A seat that is dropped takes its share with it, so that no other has the whole share
+/// again.
 #[derive(Drop)]
 pub struct LiveSeat {
     /// The right to step on the table, with the seat's view.
@@ -52,8 +54,9 @@ impl Model for LiveSeat {
 }
 
 impl Live {
-    /// A desk with so many slots a level, 1 to 1,048,576, on which no ticket is claimed, and its first seat, which has the whole share.
-    /// It takes 48 bytes a slot, and as much again while it is made. The only error is that memory runs out.
+    /// A desk with so many slots a level, 1 to 1,048,576, on which no ticket is claimed, and its first seat, which has
+    /// the whole share. It takes 48 bytes a slot, and as much again while it is made. The only error is that memory
+    /// runs out.
     pub fn new(alloc: Global, size: u32) -> Result<(Live, LiveSeat), AllocError>
         requires { (1 ≤ size) × (size ≤ 1048576) }
         ensures { IfOk result (λ made. (made.0.size ≡ size) × (made.1 ≡ first_of made.0)) }
@@ -70,8 +73,8 @@ impl Live {
         self.size
     }
 
-    /// A new seat, which set and found nothing, to which the caller's gives half of its share. It takes no memory, and always
-    /// answers Ok.
+    /// A new seat, which set and found nothing, to which the caller's gives half of its share. It takes no memory, and
+    /// always answers Ok.
     pub fn split(&self, seat: &mut LiveSeat) -> Result<LiveSeat, AllocError>
         requires desk { seat.old.desk ≡ self.now }
         requires share { 2 ≤ seat.old.share }
@@ -83,7 +86,8 @@ impl Live {
         Ok(LiveSeat { token })
     }
 
-    /// Gives all that the other seat set and found, and its share, to the first. It takes no memory and waits for nobody.
+    /// Gives all that the other seat set and found, and its share, to the first. It takes no memory and waits for
+    /// nobody.
     pub fn join(&self, seat: &mut LiveSeat, other: LiveSeat)
         requires desk { seat.old.desk ≡ self.now }
         requires other { other.desk ≡ self.now }
@@ -97,8 +101,8 @@ impl Live {
         self.table.shared.load::<Look>(&mut seat.token, 0);
     }
 
-    /// Gives up the desk with a seat that has the whole share, which it has once all others were joined. Then the seat knows of each
-    /// ticket that was lost that it was won, once, and of each full level whose its slots are.
+    /// Gives up the desk with a seat that has the whole share, which it has once all others were joined. Then the seat
+    /// knows of each ticket that was lost that it was won, once, and of each full level whose its slots are.
     pub fn close(self, seat: LiveSeat)
         requires desk { seat.desk ≡ self }
         requires share { seat.share ≡ whole }

@@ -22,8 +22,9 @@ pub enum Sight {
 }
 
 impl Live {
-    /// Whether a ticket is held. True comes exactly if its code was found at all levels; false exactly if a word of the search was 0
-    /// at its load, or each word of a level was found without the code. So it is true of a ticket that was won before.
+    /// Whether a ticket is held. True comes exactly if its code was found at all levels; false exactly if a word of the
+    /// search was 0 at its load, or each word of a level was found without the code. So it is true of a ticket that was
+    /// won before.
     ///
     /// It takes no memory and waits for nobody, and it makes at most six times as many steps as a level has slots.
     pub fn held(&self, seat: &mut LiveSeat, ticket: &[u8; 32]) -> bool

@@ -9,16 +9,17 @@
 //! | exchange of a 0 | 0 to the code | joins what was set, with the ticket |
 //! | exchange of another word | stays | the word joins what was seen |
 //!
-//! A join loads word 0 once more, for a look that changes no list. Each step on a word is counted in the view of the seat that makes it. A set is made only if the view's sets and seen words have the ticket's
-//! codes at all levels before, and other codes at the slots before it (`Ready` of `specs/ClaimSteps`).
+//! A join loads word 0 once more, for a look that changes no list. Each step on a word is counted in the view of the
+//! seat that makes it. A set is made only if the view's sets and seen words have the ticket's codes at all levels
+//! before, and other codes at the slots before it (`Ready` of `specs/ClaimSteps`).
 ghost use Rattle.live_desk.specs.Views.{Holds};
 ghost use Rattle.live_desk.specs.Steps.{Exchanges, Loads, Looks, both, first_view, left_part, right_part, spent_view};
 
 use crate::view::View;
 use atomic_table::{Join, Play, Split, TableRule};
 
-/// Each nonzero word was set once, for a ticket whose pieces it stands for. The key is the number of slots of a level. The table has no
-/// slots of its own; their type is that of the ticket which a step is told.
+/// Each nonzero word was set once, for a ticket whose pieces it stands for. The key is the number of slots of a level.
+/// The table has no slots of its own; their type is that of the ticket which a step is told.
 pub struct LiveRule;
 
 impl TableRule<[u8; 32], View, u64> for LiveRule {

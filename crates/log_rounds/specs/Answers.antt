@@ -17,8 +17,8 @@ verdict_of (Replay winner) = verdicts.Passed
 verdict_of (Unread bad) = verdicts.Unread bad
 verdict_of (Unasked bad) = verdicts.Unasked bad
 
--- What is answered to a call is the first rule that it breaks in this world, if it breaks one, and it is set aside only if it may be; and of
--- each rule this says, in the rule's own words, whether it holds.
+-- What is answered to a call is the first rule that it breaks in this world, if it breaks one, and it is set aside only
+-- if it may be; and of each rule this says, in the rule's own words, whether it holds.
 pub record Answers (world : World) (settings : Settings) (entry : Entry) (outcome : Outcome) : Type 0 where
   pub judged : IsJudged world (call_in settings entry) outcome
   pub words : SaysRules world entry.message (call_in settings entry) (verdict_of outcome)

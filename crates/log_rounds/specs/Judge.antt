@@ -19,9 +19,9 @@ pub record JudgeConfig : Type 0 where
   pub settings : Settings
   pub workers : ℕ
 
--- what moves from round to round: what is held of the calls that were valid, the x5u texts of the chains that are held, and the number and
--- the moment of the last call; and how often a file of certificates couldn't be read, the provider of signatures failed, and a file was
--- read
+-- what moves from round to round: what is held of the calls that were valid, the x5u texts of the chains that are held,
+-- and the number and the moment of the last call; and how often a file of certificates couldn't be read, the provider
+-- of signatures failed, and a file was read
 pub record JudgeState : Type 0 where
   pub past : Held
   pub held : List (List ℕ)
@@ -49,10 +49,11 @@ IsIn one (other ∷ others) = (one ≡ other) ⊎ IsIn one others
 
 -- ---- a round
 
--- Each outcome may be given to its call; a call that passes is known again, and fresh; calls that pass with one ticket are settled over the
--- past; calls are set aside only for faults; and if the provider of signatures never failed, files are read at most as often as one chain
--- more is held from then on.
-pub record RoundJudged (judged : Entry → Outcome → Type 0) (config : JudgeConfig) (chains : ChainFiles) (before now : JudgeState) (calls : List Entry) (outcomes : List Outcome) : Type 0 where
+-- Each outcome may be given to its call; a call that passes is known again, and fresh; calls that pass with one ticket
+-- are settled over the past; calls are set aside only for faults; and if the provider of signatures never failed, files
+-- are read at most as often as one chain more is held from then on.
+pub record RoundJudged (judged : Entry → Outcome → Type 0) (config : JudgeConfig) (chains : ChainFiles)
+    (before now : JudgeState) (calls : List Entry) (outcomes : List Outcome) : Type 0 where
   pub each : EachPair judged calls outcomes
   pub owed : EachPair (IsOwed config.settings) calls outcomes
   pub settled : RoundSettled before.past (round_of (rows_of config.settings calls outcomes)) now.past
@@ -61,7 +62,8 @@ pub record RoundJudged (judged : Entry → Outcome → Type 0) (config : JudgeCo
   pub unread : AtMost (length (unread_texts config.settings calls outcomes)) before.shelf now.shelf
   pub quiet_shelf : NotRisen before.shelf now.shelf → NoneUnread outcomes
   pub quiet_provider : NotRisen before.provider now.provider → NoneUnasked outcomes
-  pub few_reads : NotRisen before.provider now.provider → ReadsFew config.settings chains calls before.held now.held before.reads now.reads
+  pub few_reads : NotRisen before.provider now.provider
+      → ReadsFew config.settings chains calls before.held now.held before.reads now.reads
 
 -- what these calls change, judged or not
 pub record Moves (before now : JudgeState) (calls : List Entry) : Type 0 where

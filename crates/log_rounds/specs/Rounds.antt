@@ -53,27 +53,30 @@ InEach P (round ∷ others) = EachPair P round.calls round.outcomes × InEach P 
 -- the first call of each round that passes with a ticket is the valid one of the round, if there is one
 abbrev pub AllInOrder : JudgeConfig → List Round → Type 0
 AllInOrder config [] = Unit {0}
-AllInOrder config (round ∷ others) = FirstWins (rows_of config.settings round.calls round.outcomes) × AllInOrder config others
+AllInOrder config (round ∷ others) =
+    FirstWins (rows_of config.settings round.calls round.outcomes) × AllInOrder config others
 
 -- ---- calls set aside
 
 -- how many pairs there are of a round and a text that names certificates of unread calls of it
 abbrev pub unread_pairs : JudgeConfig → List Round → ℕ
 unread_pairs config [] = 0
-unread_pairs config (round ∷ others) = length (unread_texts config.settings round.calls round.outcomes) + unread_pairs config others
+unread_pairs config (round ∷ others) =
+    length (unread_texts config.settings round.calls round.outcomes) + unread_pairs config others
 
 -- ---- legal rounds
 
--- Each outcome may be given to its call; and of the calls that pass with one ticket, over all rounds, exactly one is valid, and each
--- other is a replay of it.
+-- Each outcome may be given to its call; and of the calls that pass with one ticket, over all rounds, exactly one is
+-- valid, and each other is a replay of it.
 pub record Legal (judged : Entry → Outcome → Type 0) (config : JudgeConfig) (rounds : List Round) : Type 0 where
   pub each : InEach judged rounds
   pub once : RowsLegal (row_rounds config rounds)
 
 -- no two different texts that were signed as last PASSporTs of the calls have one digest
 abbrev pub IsApart : JudgeConfig → List Entry → Type 0
-IsApart config calls = (call other : Entry) (input signed : List ℕ) → IsIn call calls → IsIn other calls → IsSigned (call_in config.settings call) input
-    → IsSigned (call_in config.settings other) signed → Ticket input ≡ Ticket signed → input ≡ signed
+IsApart config calls = (call other : Entry) (input signed : List ℕ) → IsIn call calls → IsIn other calls
+    → IsSigned (call_in config.settings call) input → IsSigned (call_in config.settings other) signed
+    → Ticket input ≡ Ticket signed → input ≡ signed
 
 -- the valid call of a ticket is the first of the log that passes with it
 abbrev pub FirstWinsIn : JudgeConfig → List Round → Type 0

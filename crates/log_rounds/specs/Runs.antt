@@ -19,7 +19,8 @@ pub record Run : Type 0 where
   pub passed : Passed
   pub rounds : List Round
 
--- the moment by which its past is purged when it is handed on: that of its last call, or of the call from which it went on
+-- the moment by which its past is purged when it is handed on: that of its last call, or of the call from which it went
+-- on
 abbrev pub last_moment_in : Run → ℕ
 last_moment_in run = last_moment_of run.passed.moment (calls_in run.rounds)
 
@@ -31,8 +32,8 @@ abbrev pub row_runs : List Run → List RowRun
 row_runs [] = []
 row_runs (run ∷ others) = row_run run ∷ row_runs others
 
--- It judges by this `past`, and begins no sooner than the run before it ended; its calls follow one another; and each that passes is known again by
--- what was signed, and fresh.
+-- It judges by this `past`, and begins no sooner than the run before it ended; its calls follow one another; and each
+-- that passes is known again by what was signed, and fresh.
 pub record IsRunAfter (past moment : ℕ) (run : Run) : Type 0 where
   pub window : run.config.settings.past ≡ past
   pub from : moment ≤ run.passed.moment
@@ -46,12 +47,14 @@ AreRunsAfter past moment (run ∷ others) = IsRunAfter past moment run × AreRun
 
 -- no two different texts that were signed as last PASSporTs of the calls of all runs have one digest
 abbrev pub AreApart : List Run → Type 0
-AreApart runs = (run other_run : Run) (call other : Entry) (input signed : List ℕ) → IsIn run runs → IsIn other_run runs → IsIn call (calls_in run.rounds)
-    → IsIn other (calls_in other_run.rounds) → IsSigned (call_in run.config.settings call) input → IsSigned (call_in other_run.config.settings other) signed
+AreApart runs = (run other_run : Run) (call other : Entry) (input signed : List ℕ) → IsIn run runs → IsIn other_run runs
+    → IsIn call (calls_in run.rounds) → IsIn other (calls_in other_run.rounds)
+    → IsSigned (call_in run.config.settings call) input → IsSigned (call_in other_run.config.settings other) signed
     → Ticket input ≡ Ticket signed → input ≡ signed
 
--- Let each run be settled over what the one before it handed on, and let all logs together be apart. Then of the calls of all runs that pass with one
--- ticket exactly one is valid, in the first round that has such a call, and each other is a replay of it. So purging and handing on let no PASSporT pass
--- twice.
+-- Let each run be settled over what the one before it handed on, and let all logs together be apart. Then of the calls
+-- of all runs that pass with one ticket exactly one is valid, in the first round that has such a call, and each other
+-- is a replay of it. So purging and handing on let no PASSporT pass twice.
 abbrev pub RunsLegal : Type 0
-RunsLegal = (past : ℕ) (runs : List Run) (next : Held) → AreRunsAfter past 0 runs → HandOn nothing (row_runs runs) next → AreApart runs → RowsLegal (rounds_in (row_runs runs))
+RunsLegal = (past : ℕ) (runs : List Run) (next : Held) → AreRunsAfter past 0 runs → HandOn nothing (row_runs runs) next
+    → AreApart runs → RowsLegal (rounds_in (row_runs runs))

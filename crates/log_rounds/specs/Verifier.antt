@@ -15,7 +15,8 @@ use Rattle.verify_service.specs.declared.outcome.Outcome.{Outcome}
 
 -- ---- what stays
 
--- by what calls are judged: the settings; the chain map, the trust anchors and the code table; the answers file; and on how many workers
+-- by what calls are judged: the settings; the chain map, the trust anchors and the code table; the answers file; and on
+-- how many workers
 pub record JudgeBasis : Type 0 where
   pub settings : Settings
   pub materials : Materials
@@ -24,7 +25,8 @@ pub record JudgeBasis : Type 0 where
 
 -- what a service was told, the answers file, and how many workers there are
 abbrev pub basis_by : ServiceView → Held → ℕ → JudgeBasis
-basis_by service answers workers = record { settings = service.settings; materials = materials_of service; answers = answers; workers = workers }
+basis_by service answers workers =
+    record { settings = service.settings; materials = materials_of service; answers = answers; workers = workers }
 
 abbrev pub basis_of : LogVerifier → JudgeBasis
 basis_of verifier = basis_by verifier.service verifier.answers.now verifier.workers
@@ -35,14 +37,23 @@ config_of basis = record { settings = basis.settings; workers = basis.workers }
 -- what may be answered to a call, by the files that a shelf tells
 abbrev pub AnswersBy : JudgeBasis → Option Files → Entry → Outcome → Type 0
 AnswersBy basis None entry outcome = ⊤
-AnswersBy basis (Some files) entry outcome = Answers (world_by basis.materials files (held_says basis.answers)) basis.settings entry outcome
+AnswersBy basis (Some files) entry outcome =
+    Answers (world_by basis.materials files (held_says basis.answers)) basis.settings entry outcome
 
 -- ---- what moves
 
--- the calls that passed, the chains that are held, the last call, and how often reads of the shelf failed and succeeded; the provider never fails
+-- the calls that passed, the chains that are held, the last call, and how often reads of the shelf failed and
+-- succeeded; the provider never fails
 abbrev pub state_by : ServiceView → Counts → JudgeState
-state_by service counts =
-    record { past = held service.past; held = held_texts service; number = service.number; moment = service.moment; shelf = counts.faults; provider = 0; reads = counts.reads }
+state_by service counts = record {
+  past = held service.past;
+  held = held_texts service;
+  number = service.number;
+  moment = service.moment;
+  shelf = counts.faults;
+  provider = 0;
+  reads = counts.reads;
+}
 
 abbrev pub state_of : LogVerifier → Counts → JudgeState
 state_of verifier counts = state_by verifier.service counts

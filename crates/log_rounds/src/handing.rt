@@ -28,11 +28,14 @@ impl<'a> LogCommand for HandingVerifier<'a> {
     ghost use Rattle.log_rounds.specs.Batches.{RoundsStand, RoundsStopped};
     ghost use Rattle.log_rounds.specs.Handed.{HandsBehind, StateClosed};
 
-    ghost behind = { λ first before now counts files batches. HandsBehind first.verifier now.verifier before counts files batches };
+    ghost behind = { λ first before now counts files batches.
+        HandsBehind first.verifier now.verifier before counts files batches };
 
-    ghost stopped = { λ first before now counts files batches calls stop. RoundsStopped first.verifier before counts files batches calls stop };
+    ghost stopped = { λ first before now counts files batches calls stop.
+        RoundsStopped first.verifier before counts files batches calls stop };
 
-    ghost closed = { λ first before now counts files batches text. StateClosed first.verifier now.verifier before counts files batches text };
+    ghost closed = { λ first before now counts files batches text.
+        StateClosed first.verifier now.verifier before counts files batches text };
 
     ghost stands = { λ handing counts files passed. RoundsStand handing.verifier files passed };
 
@@ -58,11 +61,13 @@ impl<'a> LogCommand for HandingVerifier<'a> {
     }
 }
 
-/// Judges a whole log that goes on from a state, by a verifier whose service was restored from it: `call` and `moment` are those of the state's last
-/// call. It writes a line for each call, in rounds of 256, and then the text of the state that is handed on.
+/// Judges a whole log that goes on from a state, by a verifier whose service was restored from it: `call` and `moment`
+/// are those of the state's last call. It writes a line for each call, in rounds of 256, and then the text of the state
+/// that is handed on.
 ///
-/// The status is that of [`judge_log`](crate::judge_log). The state's text comes before the line of a log that is outside its grammar, or that
-/// can't be read further. If memory runs out for the state, whole lines were written, and a line says so: status 6.
+/// The status is that of [`judge_log`](crate::judge_log). The state's text comes before the line of a log that is
+/// outside its grammar, or that can't be read further. If memory runs out for the state, whole lines were written, and
+/// a line says so: status 6.
 pub fn judge_log_on<R: Threads + Sync, S: Shelf, I: Source, O: Sink>(
     rt: &R,
     alloc: Global,
@@ -76,11 +81,12 @@ pub fn judge_log_on<R: Threads + Sync, S: Shelf, I: Source, O: Sink>(
     requires call { call ≤ 4000000000 }
     requires from { GoesOnFrom call moment (state_of handing.old.verifier (S.counts shelf.old)) }
     requires trusts { TrustsHeld handing.old.verifier (S.files shelf.old) }
-    ensures says { LogSays (words_on (basis_of handing.old.verifier) (S.files shelf.old) (state_of handing.old.verifier (S.counts shelf.old)).past (start call moment) (S.counts shelf.old)
-        (S.counts shelf.new)) (start call moment) (run_state (I.left input.old) (streams_of I.Source O.Sink input.old sink.old))
+    ensures says { LogSays (words_on (basis_of handing.old.verifier) (S.files shelf.old) (state_of handing.old.verifier
+        (S.counts shelf.old)).past (start call moment) (S.counts shelf.old) (S.counts shelf.new)) (start call moment)
+        (run_state (I.left input.old) (streams_of I.Source O.Sink input.old sink.old))
         (run_state (I.left input.new) (streams_of I.Source O.Sink input.new sink.new)) result }
-    ensures reads { ReadsFirst handing.old.verifier.service.settings handing.old.verifier.service.chains (start call moment) (I.left input.old)
-        (S.counts shelf.old).reads (S.counts shelf.new).reads }
+    ensures reads { ReadsFirst handing.old.verifier.service.settings handing.old.verifier.service.chains
+        (start call moment) (I.left input.old) (S.counts shelf.old).reads (S.counts shelf.new).reads }
     ensures shelf { ShelfStays S.Shelf shelf.old shelf.new }
 {
     one_log();

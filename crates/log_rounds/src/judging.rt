@@ -21,8 +21,8 @@ use verify_rules::words_law;
 use verify_service::{Carried, State};
 
 impl<'a> LogVerifier<'a> {
-    /// Judges the calls of a round, of which there are 1 to 256. Their numbers rise and their moments don't fall, from those of the last
-    /// call before them on. `AllocError` is the only error.
+    /// Judges the calls of a round, of which there are 1 to 256. Their numbers rise and their moments don't fall, from
+    /// those of the last call before them on. `AllocError` is the only error.
     pub fn judge<R: Threads + Sync, S: Shelf>(
         &mut self,
         rt: &R,
@@ -32,11 +32,15 @@ impl<'a> LogVerifier<'a> {
     ) -> Result<Carried, AllocError>
         requires follow { Follow self.old.service.number self.old.service.moment calls.now }
         requires trusts { TrustsHeld self.old (S.files shelf.old) }
-        ensures round { IfOk result (λ carried. RoundJudged (AnswersBy (basis_of self.old) (S.files shelf.old)) (config_of (basis_of self.old)) self.old.service.chains
-            (state_of self.old (S.counts shelf.old)) (state_of self.new (S.counts shelf.new)) calls.now carried.outcomes) }
-        // What changes, and what doesn't, also if memory ran out: each chain that the calls need and that isn't held is read once at most.
-        ensures most { (S.counts shelf.new).reads ≤ (S.counts shelf.old).reads + length (texts_in self.old.service calls.now) }
-        ensures moves { IfOk result (λ carried. Moves (state_of self.old (S.counts shelf.old)) (state_of self.new (S.counts shelf.new)) calls.now) }
+        ensures round { IfOk result (λ carried. RoundJudged (AnswersBy (basis_of self.old) (S.files shelf.old))
+            (config_of (basis_of self.old)) self.old.service.chains (state_of self.old (S.counts shelf.old))
+            (state_of self.new (S.counts shelf.new)) calls.now carried.outcomes) }
+        // What changes, and what doesn't, also if memory ran out: each chain that the calls need and that isn't held is
+        // read once at most.
+        ensures most { (S.counts shelf.new).reads ≤ (S.counts shelf.old).reads
+            + length (texts_in self.old.service calls.now) }
+        ensures moves { IfOk result (λ carried.
+            Moves (state_of self.old (S.counts shelf.old)) (state_of self.new (S.counts shelf.new)) calls.now) }
         ensures trusts { TrustsHeld self.new (S.files shelf.new) }
         ensures same { basis_of self.new ≡ basis_of self.old }
         ensures shelf { ShelfStays S.Shelf shelf.old shelf.new }
@@ -65,9 +69,12 @@ impl<'a> LogVerifier<'a> {
         requires some { 0 < length calls.now }
         requires few { length calls.now ≤ 256 }
         requires follow { Next (RoundsStand self.old (S.files shelf.old)) calls.now }
-        ensures judged { IfOk result (OneRound (AnswersBy (basis_of self.old) (S.files shelf.old)) (config_of (basis_of self.old)) self.old.service.chains (state_of self.old (S.counts shelf.old)) (state_of self.new (S.counts shelf.new)) calls.now) }
+        ensures judged { IfOk result (OneRound (AnswersBy (basis_of self.old) (S.files shelf.old))
+            (config_of (basis_of self.old)) self.old.service.chains (state_of self.old (S.counts shelf.old))
+            (state_of self.new (S.counts shelf.new)) calls.now) }
         ensures memory { IfErr result (λ stop. stop ≡ AnswerError.Memory) }
-        ensures most { (S.counts shelf.new).reads ≤ (S.counts shelf.old).reads + length (texts_in self.old.service calls.now) }
+        ensures most { (S.counts shelf.new).reads ≤ (S.counts shelf.old).reads
+            + length (texts_in self.old.service calls.now) }
         ensures trusts { TrustsHeld self.new (S.files shelf.new) }
         ensures same { basis_of self.new ≡ basis_of self.old }
         ensures shelf { ShelfStays S.Shelf shelf.old shelf.new }
@@ -90,9 +97,11 @@ impl<'a> LogCommand for LogVerifier<'a> {
 
     ghost behind = { λ first before now counts files batches. RoundsBehind first now before counts files batches };
 
-    ghost stopped = { λ first before now counts files batches calls stop. RoundsStopped first before counts files batches calls stop };
+    ghost stopped = { λ first before now counts files batches calls stop.
+        RoundsStopped first before counts files batches calls stop };
 
-    ghost closed = { λ first before now counts files batches text. RoundsClosed first now before counts files batches text };
+    ghost closed = { λ first before now counts files batches text.
+        RoundsClosed first now before counts files batches text };
 
     ghost stands = { λ verifier counts files passed. RoundsStand verifier files passed };
 

@@ -18,9 +18,9 @@ pub fn status_law()
     ensures one { (outcomes : List Outcome) → (AreValid outcomes → ⊥) → report_status (all_valid outcomes) ≡ 1 }
 {}
 
-/// A log may be judged call by call, in any order and on any number of machines. Afterwards, let each call that passes and is the first of the log
-/// with its ticket be valid, and each later one a replay of it. Then the outcomes are legal for every cut of the log into rounds; and if none is set
-/// aside, they are the outcomes of a run on one worker.
+/// A log may be judged call by call, in any order and on any number of machines. Afterwards, let each call that passes
+/// and is the first of the log with its ticket be valid, and each later one a replay of it. Then the outcomes are legal
+/// for every cut of the log into rounds; and if none is set aside, they are the outcomes of a run on one worker.
 pub fn day_law()
     ensures legal { DayIsLegal }
     ensures report { DayIsReport }
@@ -30,9 +30,10 @@ pub fn day_law()
     one_by_first();
 }
 
-/// A day may be judged so after others, over what is kept of their calls. If all days have one `past`, all of them together are answered by the first call of
-/// each ticket, so their outcomes are legal for every cut into rounds. What is kept is right if each day hands on to the next what was kept before it and what
-/// it won, but for entries that are too old for the next day.
+/// A day may be judged so after others, over what is kept of their calls. If all days have one `past`, all of them
+/// together are answered by the first call of each ticket, so their outcomes are legal for every cut into rounds. What
+/// is kept is right if each day hands on to the next what was kept before it and what it won, but for entries that are
+/// too old for the next day.
 pub fn days_law()
     ensures one { DaysAreOne }
     ensures legal { DaysAreLegal }
@@ -44,14 +45,16 @@ pub fn days_law()
     signed_law();
 }
 
-/// Runs that hand their state on are legal together: of the calls of all runs that pass with one ticket one is valid, and each other is a replay of it.
+/// Runs that hand their state on are legal together: of the calls of all runs that pass with one ticket one is valid,
+/// and each other is a replay of it.
 pub fn runs_law()
     ensures { RunsLegal }
 {
     legal_in_runs();
 }
 
-/// The whole output of a run that hands its state on is a file that holds this state: none of the report's lines is the first line of a state.
+/// The whole output of a run that hands its state on is a file that holds this state: none of the report's lines is the
+/// first line of a state.
 pub fn output_law()
     ensures { OutputIsState }
 {}

@@ -1,5 +1,5 @@
--- What a command over the calls of a log answers for. What is said of the batches before is said from any state on from which they may have been
--- answered, so that no list of calls is kept.
+-- What a command over the calls of a log answers for. What is said of the batches before is said from any state on from
+-- which they may have been answered, so that no list of calls is kept.
 use Rattle.std.specs.Prelude.{ℕ, ◌+◌, ◌≤◌, List, [], ◌∷◌, ◌++◌, Option}
 use Rattle.call_log.specs.Entry.{Entry}
 use Rattle.call_log.specs.Log.{AreCalls, Passed, after_all}
@@ -29,28 +29,36 @@ pub record Follow (Stands : Passed → Type 0) (calls : List Entry) : Type 0 whe
 
 -- and after these calls it is at the place after them
 abbrev pub StandsOn : (Passed → Type 0) → (Passed → Type 0) → List Entry → Type 0
-StandsOn stands stands_now calls = (passed : Passed) → stands passed → AreCalls passed calls → stands_now (after_all passed calls)
+StandsOn stands stands_now calls = (passed : Passed) → stands passed → AreCalls passed calls
+    → stands_now (after_all passed calls)
 
 -- one batch more was answered
-abbrev pub Adds : {X : Type 0} → Behind X → X → X → Counts → Counts → Option Files → List Entry → BatchAnswerView → Type 0
-Adds {X} behind one other counts counts_now files calls answer = (first : X) (before : Counts) (batches : List Batch) → behind first before one counts files batches
+abbrev pub Adds : {X : Type 0} → Behind X → X → X → Counts → Counts → Option Files → List Entry
+    → BatchAnswerView → Type 0
+Adds {X} behind one other counts counts_now files calls answer = (first : X) (before : Counts) (batches : List Batch)
+    → behind first before one counts files batches
     → behind first before other counts_now files (batches ++ batch_of calls answer ∷ [])
 
 -- the run stopped there
-abbrev pub Stops : {X : Type 0} → Behind X → Stopping X → X → X → Counts → Counts → Option Files → List Entry → AnswerError → Type 0
-Stops {X} behind stopped one other counts counts_now files calls stop = (first : X) (before : Counts) (batches : List Batch) → behind first before one counts files batches
+abbrev pub Stops : {X : Type 0} → Behind X → Stopping X → X → X → Counts → Counts → Option Files
+    → List Entry → AnswerError → Type 0
+Stops {X} behind stopped one other counts counts_now files calls stop =
+    (first : X) (before : Counts) (batches : List Batch) → behind first before one counts files batches
     → stopped first before other counts_now files batches calls stop
 
 -- the report was closed
 abbrev pub Closes : {X : Type 0} → Behind X → Closing X → X → X → List ℕ → Type 0
-Closes {X} behind closed one other text = (first : X) (before counts : Counts) (files : Option Files) (batches : List Batch) → behind first before one counts files batches
-    → closed first before other counts files batches text
+Closes {X} behind closed one other text =
+    (first : X) (before counts : Counts) (files : Option Files) (batches : List Batch)
+    → behind first before one counts files batches → closed first before other counts files batches text
 
 -- memory ran out for that, and the run stopped at no calls
 abbrev pub IsShort : {X : Type 0} → Behind X → Stopping X → X → X → Type 0
-IsShort {X} behind stopped one other = (first : X) (before counts : Counts) (files : Option Files) (batches : List Batch) → behind first before one counts files batches
-    → stopped first before other counts files batches [] Memory
+IsShort {X} behind stopped one other =
+    (first : X) (before counts : Counts) (files : Option Files) (batches : List Batch)
+    → behind first before one counts files batches → stopped first before other counts files batches [] Memory
 
 -- it holds from any state on from which the command may have come here
 abbrev pub From : {X : Type 0} → Behind X → X → Counts → Option Files → (X → Counts → List Batch → Type 0) → Type 0
-From {X} behind one counts files P = (first : X) (before : Counts) (batches : List Batch) → behind first before one counts files batches → P first before batches
+From {X} behind one counts files P = (first : X) (before : Counts) (batches : List Batch)
+    → behind first before one counts files batches → P first before batches

@@ -12,13 +12,15 @@ use Rattle.log_run.specs.declared.ends.Next.TheVariants.{More, Whole, Fault}
 use Rattle.stir_outside.specs.Count.{Rose}
 
 -- the calls come next in the log, and their entries were taken
-pub record ReadCalls (before : Passed) (left left_now : Option (List ℕ)) (now : Passed) (calls : List Entry) : Type 0 where
+pub record ReadCalls (before : Passed) (left left_now : Option (List ℕ)) (now : Passed)
+    (calls : List Entry) : Type 0 where
   pub follow : AreCalls before calls
   pub consumed : Consumes left left_now (entry_texts calls)
   pub moves : now ≡ after_all before calls
 
 -- what was read after the last whole entry, and what that says of all that was left
-pub record ReadBehind (passed : Passed) (left left_now : Option (List ℕ)) (result : Result (Option Entry) LogFault) : Type 0 where
+pub record ReadBehind (passed : Passed) (left left_now : Option (List ℕ))
+    (result : Result (Option Entry) LogFault) : Type 0 where
   pub reads : Reads passed left left_now result
   pub hands_out : HandsOutOf passed left left_now result
 
@@ -53,12 +55,14 @@ FaultyAt passed (Some rest) place = LogText passed rest [] rest × IsFaulty pass
 -- ---- a batch
 
 -- as many calls were read as a batch has
-pub record ReadFull (most : ℕ) (before : Passed) (left left_now : Option (List ℕ)) (now : Passed) (calls : List Entry) : Type 0 where
+pub record ReadFull (most : ℕ) (before : Passed) (left left_now : Option (List ℕ)) (now : Passed)
+    (calls : List Entry) : Type 0 where
   pub read : ReadCalls before left left_now now calls
   pub full : length calls ≡ most
 
 -- fewer were read, and this comes after them
-pub record ReadLast (most : ℕ) (before : Passed) (left left_now : Option (List ℕ)) (calls : List Entry) (result : Result (Option Entry) LogFault) : Type 0 where
+pub record ReadLast (most : ℕ) (before : Passed) (left left_now : Option (List ℕ)) (calls : List Entry)
+    (result : Result (Option Entry) LogFault) : Type 0 where
   pub mid : Passed
   pub mid_left : Option (List ℕ)
   pub read : ReadCalls before left mid_left mid calls
@@ -66,7 +70,8 @@ pub record ReadLast (most : ℕ) (before : Passed) (left left_now : Option (List
   pub behind : ReadBehind mid mid_left left_now result
 
 -- running out of memory is free
-abbrev pub ReadBatch : {E : Type 0} → ℕ → Passed → Option (List ℕ) → Option (List ℕ) → Passed → List Entry → Result Next E → Type 0
+abbrev pub ReadBatch : {E : Type 0} → ℕ → Passed → Option (List ℕ) → Option (List ℕ) → Passed
+    → List Entry → Result Next E → Type 0
 ReadBatch most before left left_now now calls (Ok More) = ReadFull most before left left_now now calls
 ReadBatch most before left left_now now calls (Ok Whole) = ReadLast most before left left_now calls (Ok None)
 ReadBatch most before left left_now now calls (Ok (Fault fault)) = ReadLast most before left left_now calls (Err fault)

@@ -17,7 +17,8 @@ use Rattle.stir_outside.specs.Count.{Rose}
 use Rattle.stir_outside.specs.Told.{AppendsFront}
 use Rattle.stir_outside.specs.declared.source.Source.{Ghosts as SourceOf}
 
--- how far a run has come: how far the log was read, what the source has left, what is left to the reader, and whether all is well so far
+-- how far a run has come: how far the log was read, what the source has left, what is left to the reader, and whether
+-- all is well so far
 pub record At : Type 0 where
   pub passed : Passed
   pub source : Option (List ℕ)
@@ -32,7 +33,8 @@ abbrev pub at_of : {I : Type 0} → SourceOf I → Bool → LogState → I → A
 at_of bytes good reader input = at reader.passed (bytes.left input) (left_to reader (bytes.left input)) good
 
 -- full batches were read and answered, and their lines written
-pub record RunsOn (most : ℕ) (Known : List Batch → Type 0) (before now : At) (outside outside_now : Streams) : Type 0 where
+pub record RunsOn (most : ℕ) (Known : List Batch → Type 0) (before now : At)
+    (outside outside_now : Streams) : Type 0 where
   pub batches : List Batch
   pub known : Known batches
   pub full : AllFull most batches
@@ -52,15 +54,21 @@ pub record StopsNext (Stopped : List Entry → AnswerError → Type 0) (mid : At
   pub stopped : Stopped calls stop
 
 -- why it ended after these batches, and what was written of them
-abbrev pub EndedBy : (Known : Type 0) → (List Entry → AnswerError → Type 0) → At → At → List ℕ → Streams → Streams → RunEnd → Type 0
+abbrev pub EndedBy : (Known : Type 0) → (List Entry → AnswerError → Type 0) → At → At → List ℕ → Streams
+    → Streams → RunEnd → Type 0
 EndedBy Known Stopped mid now text outside outside_now (Ok fault) =
-    Known × BehindBy {X = RunError} mid.passed mid.left now.left (Ok fault) × (now.good ≡ mid.good) × SourceRose outside outside_now (now.left ≡ now.source) fault × Appends outside.written outside_now.written text
-EndedBy Known Stopped mid now text outside outside_now (Err error.Sink) = Known × Rose outside.write_faults outside_now.write_faults × AppendsFront outside.written outside_now.written text
-EndedBy Known Stopped mid now text outside outside_now (Err error.Memory) = Known × Appends outside.written outside_now.written text
-EndedBy Known Stopped mid now text outside outside_now (Err (error.Stopped stop)) = StopsNext Stopped mid stop × Appends outside.written outside_now.written text
+    Known × BehindBy {X = RunError} mid.passed mid.left now.left (Ok fault) × (now.good ≡ mid.good)
+    × SourceRose outside outside_now (now.left ≡ now.source) fault × Appends outside.written outside_now.written text
+EndedBy Known Stopped mid now text outside outside_now (Err error.Sink) =
+    Known × Rose outside.write_faults outside_now.write_faults × AppendsFront outside.written outside_now.written text
+EndedBy Known Stopped mid now text outside outside_now (Err error.Memory) =
+    Known × Appends outside.written outside_now.written text
+EndedBy Known Stopped mid now text outside outside_now (Err (error.Stopped stop)) =
+    StopsNext Stopped mid stop × Appends outside.written outside_now.written text
 
 -- batches were answered up to the last one or to what stopped the run
-pub record RunsOut (most : ℕ) (Known : List Batch → Type 0) (Stopped : List Batch → List Entry → AnswerError → Type 0) (before now : At) (outside outside_now : Streams) (ended : RunEnd) : Type 0 where
+pub record RunsOut (most : ℕ) (Known : List Batch → Type 0) (Stopped : List Batch → List Entry → AnswerError → Type 0)
+    (before now : At) (outside outside_now : Streams) (ended : RunEnd) : Type 0 where
   pub batches : List Batch
   pub mid : At
   pub cut : IsCut most batches
@@ -70,11 +78,16 @@ pub record RunsOut (most : ℕ) (Known : List Batch → Type 0) (Stopped : List 
   pub stay : StreamsStay outside outside_now
 
 -- one batch, from any batches on that may have been answered before
-abbrev pub RanBatch : ℕ → (List Batch → Type 0) → (List Batch → List Entry → AnswerError → Type 0) → List Batch → At → At → Streams → Streams → Result Next RunError → Type 0
-RanBatch most Known Stopped first before now outside outside_now (Ok More) = RunsOn most (λ more. Known (first ++ more)) before now outside outside_now
-RanBatch most Known Stopped first before now outside outside_now (Ok Whole) = RunsOut most (λ more. Known (first ++ more)) (λ more. Stopped (first ++ more)) before now outside outside_now (Ok None)
-RanBatch most Known Stopped first before now outside outside_now (Ok (Fault fault)) = RunsOut most (λ more. Known (first ++ more)) (λ more. Stopped (first ++ more)) before now outside outside_now (Ok (Some fault))
-RanBatch most Known Stopped first before now outside outside_now (Err stopped) = RunsOut most (λ more. Known (first ++ more)) (λ more. Stopped (first ++ more)) before now outside outside_now (Err stopped)
+abbrev pub RanBatch : ℕ → (List Batch → Type 0) → (List Batch → List Entry → AnswerError → Type 0) → List Batch → At
+    → At → Streams → Streams → Result Next RunError → Type 0
+RanBatch most Known Stopped first before now outside outside_now (Ok More) =
+    RunsOn most (λ more. Known (first ++ more)) before now outside outside_now
+RanBatch most Known Stopped first before now outside outside_now (Ok Whole) = RunsOut most
+    (λ more. Known (first ++ more)) (λ more. Stopped (first ++ more)) before now outside outside_now (Ok None)
+RanBatch most Known Stopped first before now outside outside_now (Ok (Fault fault)) = RunsOut most
+    (λ more. Known (first ++ more)) (λ more. Stopped (first ++ more)) before now outside outside_now (Ok (Some fault))
+RanBatch most Known Stopped first before now outside outside_now (Err stopped) = RunsOut most
+    (λ more. Known (first ++ more)) (λ more. Stopped (first ++ more)) before now outside outside_now (Err stopped)
 
 -- ---- one batch
 
@@ -85,9 +98,14 @@ pub record Answers (May : BatchAnswerView → Type 0) (good good_now : Bool) (Wr
   pub so : good_now ≡ (good && answer.well)
   pub wrote : Wrote answer.text
 
--- the lines were written, or, if the sink failed, a prefix of them, or the calls weren't answered and nothing was written
-abbrev pub AnsweredBatch : (BatchAnswerView → Type 0) → (AnswerError → Type 0) → Bool → Bool → Option (List ℕ) → Option (List ℕ) → ℕ → ℕ → Result (Unit {0}) RunError → Type 0
-AnsweredBatch May MayStop good good_now written written_now writes writes_now (Ok done) = Answers May good good_now (λ lines. Appends written written_now lines)
-AnsweredBatch May MayStop good good_now written written_now writes writes_now (Err error.Sink) = Answers May good good_now (λ lines. AppendsFront written written_now lines) × Rose writes writes_now
+-- the lines were written, or, if the sink failed, a prefix of them, or the calls weren't answered and nothing was
+-- written
+abbrev pub AnsweredBatch : (BatchAnswerView → Type 0) → (AnswerError → Type 0) → Bool → Bool → Option (List ℕ)
+    → Option (List ℕ) → ℕ → ℕ → Result (Unit {0}) RunError → Type 0
+AnsweredBatch May MayStop good good_now written written_now writes writes_now (Ok done) =
+    Answers May good good_now (λ lines. Appends written written_now lines)
+AnsweredBatch May MayStop good good_now written written_now writes writes_now (Err error.Sink) =
+    Answers May good good_now (λ lines. AppendsFront written written_now lines) × Rose writes writes_now
 AnsweredBatch May MayStop good good_now written written_now writes writes_now (Err error.Memory) = ⊥
-AnsweredBatch May MayStop good good_now written written_now writes writes_now (Err (error.Stopped stop)) = MayStop stop × Appends written written_now []
+AnsweredBatch May MayStop good good_now written written_now writes writes_now (Err (error.Stopped stop)) =
+    MayStop stop × Appends written written_now []

@@ -15,9 +15,13 @@ pub record AreBatches (most : ℕ) (passed : Passed) (batches : List Batch) : Ty
   pub follow : AreCalls passed (calls_in batches)
 
 -- of what may have been answered, of what stopped the run then and of what closed the report these words are true
-pub record Speaks (words : Words) (passed : Passed) (Known : List Batch → Type 0) (Stopped : List Batch → List Entry → AnswerError → Type 0) (Closed : List Batch → List ℕ → Type 0) : Type 0 where
+pub record Speaks (words : Words) (passed : Passed) (Known : List Batch → Type 0)
+    (Stopped : List Batch → List Entry → AnswerError → Type 0) (Closed : List Batch → List ℕ → Type 0) : Type 0 where
   pub known : (batches : List Batch) → AreBatches words.most passed batches → Known batches → words.Known batches
-  pub stopped : (batches : List Batch) (calls : List Entry) (stop : AnswerError) → AreBatches words.most passed batches → Stopped batches calls stop → words.Known batches
-  pub stops : (batches : List Batch) (calls : List Entry) (text name : String Global) → Stopped batches calls (Unread text name) → words.Stops batches calls (string_bytes text) (string_bytes name)
-  pub closed : (batches : List Batch) (text : List ℕ) → AreBatches words.most passed batches → Closed batches text → words.Known batches
+  pub stopped : (batches : List Batch) (calls : List Entry) (stop : AnswerError) → AreBatches words.most passed batches
+      → Stopped batches calls stop → words.Known batches
+  pub stops : (batches : List Batch) (calls : List Entry) (text name : String Global)
+      → Stopped batches calls (Unread text name) → words.Stops batches calls (string_bytes text) (string_bytes name)
+  pub closed : (batches : List Batch) (text : List ℕ) → AreBatches words.most passed batches
+      → Closed batches text → words.Known batches
   pub closes : (batches : List Batch) (text : List ℕ) → Closed batches text → words.Closes batches text

@@ -17,7 +17,8 @@ pub record Words : Type 1 where
   pub most : ℕ
   -- the batches may have been answered so
   pub Known : List Batch → Type 0
-  -- and then these calls come at which the run stops: these lines of them were to be written, and the file of this name couldn't be read
+  -- and then these calls come at which the run stops: these lines of them were to be written, and the file of this name
+  -- couldn't be read
   pub Stops : List Batch → List Entry → List ℕ → List ℕ → Type 0
   -- or this text closes the report
   pub Closes : List Batch → List ℕ → Type 0
@@ -51,7 +52,8 @@ pub record TakenLog (passed : Passed) (before now : RunState) (calls : List Entr
   pub log : LogText passed taken calls rest
 
 -- the run stopped at the calls that come next, and this is to be written of it
-pub record StopsWith (words : Words) (passed : Passed) (left : Option (List ℕ)) (batches : List Batch) (line : List ℕ) : Type 0 where
+pub record StopsWith (words : Words) (passed : Passed) (left : Option (List ℕ)) (batches : List Batch)
+    (line : List ℕ) : Type 0 where
   pub calls : List Entry
   pub text : List ℕ
   pub name : List ℕ
@@ -61,8 +63,9 @@ pub record StopsWith (words : Words) (passed : Passed) (left : Option (List ℕ)
 
 -- ---- status 0 and 1
 
--- The log was read to its end; its calls were answered; their lines and the closing text were written, and nothing else; and the status says
--- whether all is well; and the count of failed writes didn't fall. If the bytes are told, they are a whole log.
+-- The log was read to its end; its calls were answered; their lines and the closing text were written, and nothing
+-- else; and the status says whether all is well; and the count of failed writes didn't fall. If the bytes are told,
+-- they are a whole log.
 pub record DoneReport (words : Words) (passed : Passed) (before now : RunState) (status : ℕ) : Type 0 where
   pub batches : List Batch
   pub answered : FirstBatches words passed before.left batches
@@ -75,8 +78,8 @@ pub record DoneReport (words : Words) (passed : Passed) (before now : RunState) 
 
 -- ---- status 5
 
--- The calls before a fault of the log were answered; their lines, the closing text and the line of the fault were written. If the bytes are told,
--- they are at fault there.
+-- The calls before a fault of the log were answered; their lines, the closing text and the line of the fault were
+-- written. If the bytes are told, they are at fault there.
 pub record PartReport (words : Words) (passed : Passed) (before now : RunState) : Type 0 where
   pub batches : List Batch
   pub answered : FirstBatches words passed before.left batches
@@ -88,7 +91,8 @@ pub record PartReport (words : Words) (passed : Passed) (before now : RunState) 
 
 -- ---- status 3
 
--- The source failed; the calls that were read were answered; their lines, the closing text and the line of the failure were written.
+-- The source failed; the calls that were read were answered; their lines, the closing text and the line of the failure
+-- were written.
 pub record FailedReport (words : Words) (passed : Passed) (before now : RunState) : Type 0 where
   pub batches : List Batch
   pub answered : FirstBatches words passed before.left batches
@@ -109,11 +113,13 @@ pub record StoppedReport (words : Words) (passed : Passed) (before now : RunStat
 
 -- what may come after the closing text: nothing, or the line of an event that came
 abbrev pub MayEndWith : Passed → RunState → RunState → List Entry → List ℕ → Type 0
-MayEndWith passed before now calls line = (line ≡ []) ⊎ ((line ≡ memory_line) ⊎ (((line ≡ failed_line) × TakenLog passed before now calls)
+MayEndWith passed before now calls line =
+    (line ≡ []) ⊎ ((line ≡ memory_line) ⊎ (((line ≡ failed_line) × TakenLog passed before now calls)
     ⊎ ((place : ℕ) × (line ≡ refused_line place) × IfSome before.left (λ bytes. PartLog passed bytes calls place))))
 
 -- the report was closed by a text, and this is to be written after the batches
-pub record ClosesWith (words : Words) (passed : Passed) (before now : RunState) (batches : List Batch) (line : List ℕ) : Type 0 where
+pub record ClosesWith (words : Words) (passed : Passed) (before now : RunState) (batches : List Batch)
+    (line : List ℕ) : Type 0 where
   pub text : List ℕ
   pub closes : words.Closes batches text
   pub end : List ℕ
@@ -122,10 +128,11 @@ pub record ClosesWith (words : Words) (passed : Passed) (before now : RunState) 
 
 -- what may come after the lines of these batches
 abbrev pub MayComeAfter : Words → Passed → RunState → RunState → List Batch → List ℕ → Type 0
-MayComeAfter words passed before now batches line =
-    (line ≡ []) ⊎ ((line ≡ memory_line) ⊎ (StopsWith words passed before.left batches line ⊎ ClosesWith words passed before now batches line))
+MayComeAfter words passed before now batches line = (line ≡ []) ⊎ ((line ≡ memory_line)
+    ⊎ (StopsWith words passed before.left batches line ⊎ ClosesWith words passed before now batches line))
 
--- The sink failed; the first calls of the log were answered; a prefix of their lines and of what may come after them was written.
+-- The sink failed; the first calls of the log were answered; a prefix of their lines and of what may come after them
+-- was written.
 pub record FrontReport (words : Words) (passed : Passed) (before now : RunState) : Type 0 where
   pub failed : Rose before.streams.write_faults now.streams.write_faults
   pub batches : List Batch
@@ -134,7 +141,8 @@ pub record FrontReport (words : Words) (passed : Passed) (before now : RunState)
   pub may_come : MayComeAfter words passed before now batches line
   pub front : AppendsFront before.streams.written now.streams.written (texts_in batches ++ line)
 
--- Memory ran out; the first calls of the log were answered; their lines, the closing text if it came so far, and the last line were written.
+-- Memory ran out; the first calls of the log were answered; their lines, the closing text if it came so far, and the
+-- last line were written.
 pub record ShortReport (words : Words) (passed : Passed) (before now : RunState) : Type 0 where
   pub batches : List Batch
   pub answered : FirstBatches words passed before.left batches
@@ -146,17 +154,20 @@ pub record ShortReport (words : Words) (passed : Passed) (before now : RunState)
 
 -- no file stops the run
 abbrev pub NeverStops : Words → Type 0
-NeverStops words = (batches : List Batch) (calls : List Entry) (text name : List ℕ) → words.Stops batches calls text name → ⊥
+NeverStops words = (batches : List Batch) (calls : List Entry) (text name : List ℕ)
+    → words.Stops batches calls text name → ⊥
 
--- If no read of the log and no write failed, and no file stops the run, a whole log has a whole report, and one that isn't whole is refused; or
--- memory ran out.
+-- If no read of the log and no write failed, and no file stops the run, a whole log has a whole report, and one that
+-- isn't whole is refused; or memory ran out.
 abbrev pub AnswersWhole : Words → Passed → RunState → RunState → ℕ → Type 0
-AnswersWhole words passed before now status = (bytes : List ℕ) (calls : List Entry) → before.left ≡ Some bytes → LogText passed bytes calls []
-    → NotRisen before.streams.read_faults now.streams.read_faults → NotRisen before.streams.write_faults now.streams.write_faults → NeverStops words → (status ≤ 1) ⊎ (status ≡ 6)
+AnswersWhole words passed before now status = (bytes : List ℕ) (calls : List Entry) → before.left ≡ Some bytes
+    → LogText passed bytes calls [] → NotRisen before.streams.read_faults now.streams.read_faults
+    → NotRisen before.streams.write_faults now.streams.write_faults → NeverStops words → (status ≤ 1) ⊎ (status ≡ 6)
 
 abbrev pub AnswersFaulty : Words → Passed → RunState → RunState → ℕ → Type 0
-AnswersFaulty words passed before now status = (bytes rest : List ℕ) (calls : List Entry) → before.left ≡ Some bytes → LogText passed bytes calls rest → rest ≢ []
-    → NotRisen before.streams.read_faults now.streams.read_faults → NotRisen before.streams.write_faults now.streams.write_faults → NeverStops words → (status ≡ 5) ⊎ (status ≡ 6)
+AnswersFaulty words passed before now status = (bytes rest : List ℕ) (calls : List Entry) → before.left ≡ Some bytes
+    → LogText passed bytes calls rest → rest ≢ [] → NotRisen before.streams.read_faults now.streams.read_faults
+    → NotRisen before.streams.write_faults now.streams.write_faults → NeverStops words → (status ≡ 5) ⊎ (status ≡ 6)
 
 -- ---- the whole
 

@@ -29,10 +29,12 @@ fn answer_batch<R: Threads + Sync, C: LogCommand, S: Shelf, O: Sink>(
     requires some { 0 < length calls.now }
     requires few { length calls.now ≤ C.most command.old }
     requires follow { Follow (C.stands command.old (S.counts shelf.old) (S.files shelf.old)) calls.now }
-    ensures answered { AnsweredBatch (Adds C.behind command.old command.new (S.counts shelf.old) (S.counts shelf.new) (S.files shelf.old) calls.now)
-        (Stops C.behind C.stopped command.old command.new (S.counts shelf.old) (S.counts shelf.new) (S.files shelf.old) calls.now)
-        all_good.old all_good.new (O.written sink.old) (O.written sink.new) (O.faults sink.old) (O.faults sink.new) result }
-    ensures stands { IfOk result (λ done. StandsOn (C.stands command.old (S.counts shelf.old) (S.files shelf.old)) (C.stands command.new (S.counts shelf.new) (S.files shelf.new)) calls.now) }
+    ensures answered { AnsweredBatch (Adds C.behind command.old command.new (S.counts shelf.old) (S.counts shelf.new)
+        (S.files shelf.old) calls.now) (Stops C.behind C.stopped command.old command.new (S.counts shelf.old)
+        (S.counts shelf.new) (S.files shelf.old) calls.now) all_good.old all_good.new (O.written sink.old)
+        (O.written sink.new) (O.faults sink.old) (O.faults sink.new) result }
+    ensures stands { IfOk result (λ done. StandsOn (C.stands command.old (S.counts shelf.old) (S.files shelf.old))
+        (C.stands command.new (S.counts shelf.new) (S.files shelf.new)) calls.now) }
     ensures writes { O.faults sink.old ≤ O.faults sink.new }
     ensures same_most { C.most command.new ≡ C.most command.old }
     ensures shelf { ShelfStays S.Shelf shelf.old shelf.new }
@@ -61,18 +63,19 @@ fn run_batch<R: Threads + Sync, C: LogCommand, S: Shelf, I: Source, O: Sink>(
 ) -> Result<Next, RunError>
     requires reads_on { ReadsOn reader.old }
     requires stands { C.stands command.old (S.counts shelf.old) (S.files shelf.old) reader.old.passed }
-    ensures ran { From C.behind command.old (S.counts shelf.old) (S.files shelf.old) (λ first before batches. RanBatch (C.most command.old)
-        (C.behind first before command.new (S.counts shelf.new) (S.files shelf.old)) (C.stopped first before command.new (S.counts shelf.new) (S.files shelf.old)) batches
-        (at_of I.Source all_good.old reader.old input.old)
-        (at_of I.Source all_good.new reader.new input.new)
-        (streams_of I.Source O.Sink input.old sink.old)
-        (streams_of I.Source O.Sink input.new sink.new) result) }
+    ensures ran { From C.behind command.old (S.counts shelf.old) (S.files shelf.old) (λ first before batches.
+        RanBatch (C.most command.old) (C.behind first before command.new (S.counts shelf.new) (S.files shelf.old))
+        (C.stopped first before command.new (S.counts shelf.new) (S.files shelf.old)) batches
+        (at_of I.Source all_good.old reader.old input.old) (at_of I.Source all_good.new reader.new input.new)
+        (streams_of I.Source O.Sink input.old sink.old) (streams_of I.Source O.Sink input.new sink.new) result) }
     ensures reads_on { result ≡ Ok More → ReadsOn reader.new }
-    ensures stands { result ≡ Ok More → C.stands command.new (S.counts shelf.new) (S.files shelf.new) reader.new.passed }
+    ensures stands { result ≡ Ok More
+        → C.stands command.new (S.counts shelf.new) (S.files shelf.new) reader.new.passed }
     ensures more { result ≡ Ok More → reader.new.passed.count ≡ reader.old.passed.count + C.most command.old }
     ensures some { 0 < C.most command.old }
     ensures same_most { C.most command.new ≡ C.most command.old }
-    ensures ends { EndsRight (supply_of I.Source reader.old.ended input.old) → EndsRight (supply_of I.Source reader.new.ended input.new) }
+    ensures ends { EndsRight (supply_of I.Source reader.old.ended input.old)
+        → EndsRight (supply_of I.Source reader.new.ended input.new) }
     ensures shelf { ShelfStays S.Shelf shelf.old shelf.new }
 {
     let mut calls = Vec::new(alloc);
@@ -105,12 +108,12 @@ pub(crate) fn run_batches<R: Threads + Sync, C: LogCommand, S: Shelf, I: Source,
     requires stands { C.stands command.old (S.counts shelf.old) (S.files shelf.old) reader.old.passed }
     requires first { C.behind command.old (S.counts shelf.old) command.old (S.counts shelf.old) (S.files shelf.old) [] }
     ensures ran { RunsOut (C.most command.old)
-        (C.behind command.old (S.counts shelf.old) command.new (S.counts shelf.new) (S.files shelf.old)) (C.stopped command.old (S.counts shelf.old) command.new (S.counts shelf.new) (S.files shelf.old))
-        (at_of I.Source all_good.old reader.old input.old)
-        (at_of I.Source all_good.new reader.new input.new)
-        (streams_of I.Source O.Sink input.old sink.old)
-        (streams_of I.Source O.Sink input.new sink.new) result }
-    ensures ends { EndsRight (supply_of I.Source reader.old.ended input.old) → EndsRight (supply_of I.Source reader.new.ended input.new) }
+        (C.behind command.old (S.counts shelf.old) command.new (S.counts shelf.new) (S.files shelf.old))
+        (C.stopped command.old (S.counts shelf.old) command.new (S.counts shelf.new) (S.files shelf.old))
+        (at_of I.Source all_good.old reader.old input.old) (at_of I.Source all_good.new reader.new input.new)
+        (streams_of I.Source O.Sink input.old sink.old) (streams_of I.Source O.Sink input.new sink.new) result }
+    ensures ends { EndsRight (supply_of I.Source reader.old.ended input.old)
+        → EndsRight (supply_of I.Source reader.new.ended input.new) }
     ensures shelf { ShelfStays S.Shelf shelf.old shelf.new }
 {
     'batches: loop {

@@ -13,8 +13,9 @@ pub type Answered = Result<BatchAnswer, AnswerError>;
 
 /// A command over the calls of a log, which are handed to it in batches.
 ///
-/// `behind` says which batches may have been answered from one state on up to another, `stopped` where the run may then stop, and `closed` by what
-/// text the report may then be closed. `stands` says after which places of the log a batch may come, with these counts and files of the shelf.
+/// `behind` says which batches may have been answered from one state on up to another, `stopped` where the run may then
+/// stop, and `closed` by what text the report may then be closed. `stands` says after which places of the log a batch
+/// may come, with these counts and files of the shelf.
 pub trait LogCommand {
     ghost use Rattle.call_log.specs.Entry.{Entry};
     ghost use Rattle.call_log.specs.Log.{Passed};
@@ -50,9 +51,12 @@ pub trait LogCommand {
         requires some { 0 < length calls.now }
         requires few { length calls.now ≤ most self.old }
         requires follow { Follow (stands self.old (S.counts shelf.old) (S.files shelf.old)) calls.now }
-        ensures adds { IfOk result (λ answer. Adds behind self.old self.new (S.counts shelf.old) (S.counts shelf.new) (S.files shelf.old) calls.now answer) }
-        ensures stands { IfOk result (λ answer. StandsOn (stands self.old (S.counts shelf.old) (S.files shelf.old)) (stands self.new (S.counts shelf.new) (S.files shelf.new)) calls.now) }
-        ensures stopped { IfErr result (λ stop. Stops behind stopped self.old self.new (S.counts shelf.old) (S.counts shelf.new) (S.files shelf.old) calls.now stop) }
+        ensures adds { IfOk result (λ answer. Adds behind self.old self.new (S.counts shelf.old) (S.counts shelf.new)
+            (S.files shelf.old) calls.now answer) }
+        ensures stands { IfOk result (λ answer. StandsOn (stands self.old (S.counts shelf.old) (S.files shelf.old))
+            (stands self.new (S.counts shelf.new) (S.files shelf.new)) calls.now) }
+        ensures stopped { IfErr result (λ stop. Stops behind stopped self.old self.new (S.counts shelf.old)
+            (S.counts shelf.new) (S.files shelf.old) calls.now stop) }
         ensures same_most { most self.new ≡ most self.old }
         ensures shelf { ShelfStays S.Shelf shelf.old shelf.new };
 

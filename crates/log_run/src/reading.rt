@@ -20,13 +20,15 @@ fn next_call<I: Source>(reader: &mut LogReader, input: &mut I) -> Result<Option<
     ensures bounded { reader.new.passed.count ≤ most_entries }
     ensures failed { result ≡ Err LogFault.Source → SourceFailed (I.faults input.old) (I.faults input.new)
         (left_to reader.new (I.left input.new) ≡ I.left input.new) }
-    ensures ends { EndsRight (supply_of I.Source reader.old.ended input.old) → EndsRight (supply_of I.Source reader.new.ended input.new) }
+    ensures ends { EndsRight (supply_of I.Source reader.old.ended input.old)
+        → EndsRight (supply_of I.Source reader.new.ended input.new) }
     ensures never_falls { I.faults input.old ≤ I.faults input.new }
 {
     reader.next(input)
 }
 
-/// Reads the calls of the next batch into a list that is empty, and says what comes after them. `AllocError` is the only error.
+/// Reads the calls of the next batch into a list that is empty, and says what comes after them. `AllocError` is the
+/// only error.
 #[tactic(auto, using(crate::proofs::ReadLaws::read_none, crate::proofs::ReadLaws::read_more, crate::proofs::ReadLaws::read_full, crate::proofs::ReadLaws::read_last))]
 pub(crate) fn read_batch<I: Source>(
     most: u32,
@@ -36,12 +38,13 @@ pub(crate) fn read_batch<I: Source>(
 ) -> Result<Next, AllocError>
     requires reads_on { ReadsOn reader.old }
     requires empty { calls.old.items ≡ [] }
-    ensures read { ReadBatch most reader.old.passed
-        (left_to reader.old (I.left input.old)) (left_to reader.new (I.left input.new)) reader.new.passed calls.new.items result }
+    ensures read { ReadBatch most reader.old.passed (left_to reader.old (I.left input.old))
+        (left_to reader.new (I.left input.new)) reader.new.passed calls.new.items result }
     ensures reads_on { result ≡ Ok More → ReadsOn reader.new }
     ensures failed { result ≡ Ok (Fault LogFault.Source) → SourceFailed (I.faults input.old) (I.faults input.new)
         (left_to reader.new (I.left input.new) ≡ I.left input.new) }
-    ensures ends { EndsRight (supply_of I.Source reader.old.ended input.old) → EndsRight (supply_of I.Source reader.new.ended input.new) }
+    ensures ends { EndsRight (supply_of I.Source reader.old.ended input.old)
+        → EndsRight (supply_of I.Source reader.new.ended input.new) }
     ensures never_falls { I.faults input.old ≤ I.faults input.new }
 {
     for _ in 0..most {

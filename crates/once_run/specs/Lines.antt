@@ -1,5 +1,5 @@
--- The lines of a report on tickets (this project's own format): `N won`, `N lost` or `N full LEVEL`. N is the number of the ticket from 1, and
--- LEVEL is 1 to 6.
+-- The lines of a report on tickets (this project's own format): `N won`, `N lost` or `N full LEVEL`. N is the number of
+-- the ticket from 1, and LEVEL is 1 to 6.
 use Rattle.std.specs.Prelude.{ℕ, suc, Bool, true, false, List, [], ◌∷◌, ◌++◌, codes}
 use Rattle.std.specs.Fmt.{decimal}
 use Rattle.std.specs.List.{list_all}

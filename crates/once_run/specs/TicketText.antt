@@ -1,5 +1,5 @@
--- A text of tickets (this project's own format): a line for each, of its 32 bytes in hex digits. `text_lines` are the lines of a text that
--- say something, each with its number.
+-- A text of tickets (this project's own format): a line for each, of its 32 bytes in hex digits. `text_lines` are the
+-- lines of a text that say something, each with its number.
 use Rattle.std.specs.Prelude.{◌≡◌, ◌⊎◌, ℕ, ◌≤◌, List, [], ◌∷◌, ◌++◌, length}
 use Rattle.text_grammar.specs.FileLines.{text_lines}
 use Rattle.stir_outside.specs.AnswersLine.{IsHex}
@@ -20,7 +20,8 @@ pub record TicketText (text : List ℕ) (tickets : List (List ℕ)) : Type 0 whe
   pub lines : HaveTickets (text_lines text) tickets
   pub few : length tickets ≤ 1000000
 
--- The line of this number is the first that is refused: those before it have tickets, and it has none, or they are as many as a text may have
+-- The line of this number is the first that is refused: those before it have tickets, and it has none, or they are as
+-- many as a text may have
 pub record IsBadLine (text : List ℕ) (number : ℕ) : Type 0 where
   pub before : List (ℕ × List ℕ)
   pub tickets : List (List ℕ)

@@ -1,5 +1,7 @@
--- What workers do with a list of tickets: how far each has come, and what their seats have together. Places and workers count from 0.
-use Rattle.std.specs.Prelude.{◌≡◌, ◌≢◌, ℕ, ◌+◌, ◌%◌, ◌<◌, ◌≤◌, Option, Some, None, List, [], ◌∷◌, length, slice_index_or}
+-- What workers do with a list of tickets: how far each has come, and what their seats have together. Places and workers
+-- count from 0.
+use Rattle.std.specs.Prelude.{◌≡◌, ◌≢◌, ℕ, ◌+◌, ◌%◌, ◌<◌, ◌≤◌, Option, Some, None, List, [], ◌∷◌, length}
+use Rattle.std.specs.Prelude.{slice_index_or}
 use Rattle.live_desk.specs.Claimed.{BeforeFull}
 use Rattle.live_desk.specs.Holder.{Holder, LiveDesk, both_of}
 use Rattle.live_desk.specs.Laws.{won}
@@ -21,16 +23,19 @@ claim_at claims n = slice_index_or claims n Won
 abbrev pub SeatHas : ℕ → List ℕ → Holder → LiveClaim → Type 0
 SeatHas size ticket h Won = 0 < won ticket h.sets
 SeatHas size ticket h Lost = IsTicket ticket × ((slot : ℕ) × Trail h.sets h.seen (pieces ticket) 6 slot)
-SeatHas size ticket h (Full n) = (level : ℕ) × (n ≡ level + 1) × (level < 6) × IsTicket ticket × FullAt size ticket h.sets h.seen level
+SeatHas size ticket h (Full n) =
+    (level : ℕ) × (n ≡ level + 1) × (level < 6) × IsTicket ticket × FullAt size ticket h.sets h.seen level
 
 -- what a worker's seat has of its tickets before a place
-pub record Worked (size : ℕ) (tickets : List (List ℕ)) (count worker upto : ℕ) (h : Holder) (claims : List LiveClaim) : Type 0 where
+pub record Worked (size : ℕ) (tickets : List (List ℕ)) (count worker upto : ℕ) (h : Holder)
+    (claims : List LiveClaim) : Type 0 where
   pub each : (n : ℕ) → n < upto → n % count ≡ worker → SeatHas size (ticket_at tickets n) h (claim_at claims n)
   -- a ticket that was won at two places was won twice
-  pub twice : (m n : ℕ) → m < upto → n < upto → m % count ≡ worker → n % count ≡ worker → m ≢ n → ticket_at tickets m ≡ ticket_at tickets n
-      → claim_at claims m ≡ Won → claim_at claims n ≡ Won → 2 ≤ won (ticket_at tickets n) h.sets
+  pub twice : (m n : ℕ) → m < upto → n < upto → m % count ≡ worker → n % count ≡ worker → m ≢ n → ticket_at tickets m
+      ≡ ticket_at tickets n → claim_at claims m ≡ Won → claim_at claims n ≡ Won → 2 ≤ won (ticket_at tickets n) h.sets
   -- each set is of one of the tickets
-  pub sets : (e : SetWord) → In e h.sets → (n : ℕ) × (n < upto) × (n % count ≡ worker) × (e.ticket ≡ ticket_at tickets n) × BeforeFull (claim_at claims n) e.level
+  pub sets : (e : SetWord) → In e h.sets → (n : ℕ) × (n < upto) × (n % count ≡ worker)
+      × (e.ticket ≡ ticket_at tickets n) × BeforeFull (claim_at claims n) e.level
 
 -- a worker with a fresh seat of the desk, and room for so many claims
 pub record Seated (desk : LiveDesk) (room : ℕ) (w : Worker) : Type 0 where

@@ -10,8 +10,9 @@ use live_desk::{Live, LiveClaim};
 use std::alloc::{AllocError, Global};
 use std::thread::{Threads, for_each_mut};
 
-/// Claims tickets by so many workers, 1 to 8, on a new desk with so many slots a level, 1 to 1,048,576: worker w of W, counted from 0, claims
-/// those at the places w, w + W, and so on. What came of each ticket is at its place. `AllocError` is the only error.
+/// Claims tickets by so many workers, 1 to 8, on a new desk with so many slots a level, 1 to 1,048,576: worker w of W,
+/// counted from 0, claims those at the places w, w + W, and so on. What came of each ticket is at its place.
+/// `AllocError` is the only error.
 pub(crate) fn claim_tickets<R: Threads + Sync>(
     rt: &R,
     alloc: Global,
@@ -40,8 +41,8 @@ fn work_all<R: Threads + Sync>(rt: &R, desk: &Live, tickets: &[[u8; 32]], worker
     requires some { 0 < length workers.old.items }
     requires seated { All (Seated desk.now (length tickets.now)) workers.old.items }
     ensures same { length workers.new.items ≡ length workers.old.items }
-    ensures carried { (i : ℕ) (d : _) → i < length workers.old.items
-        → Carried desk.now tickets.now (length workers.old.items) i (slice_index_or workers.old.items i d) (slice_index_or workers.new.items i d) }
+    ensures carried { (i : ℕ) (d : _) → i < length workers.old.items → Carried desk.now tickets.now
+        (length workers.old.items) i (slice_index_or workers.old.items i d) (slice_index_or workers.new.items i d) }
 {
     let count = workers.len();
     for_each_mut(

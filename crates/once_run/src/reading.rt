@@ -15,8 +15,9 @@ const MOST_TICKETS: usize = 1_000_000;
 /// How many bytes a line with a ticket has at least, with its LF.
 const LINE_BYTES: usize = 65;
 
-/// Reads a text of tickets: a line for each, of 64 hex digits of either case, at most 1,000,000 of them. A line ends at LF, one CR before
-/// that is dropped, and the last may lack its LF. Empty lines and lines that begin with `;` are passed over, and counted.
+/// Reads a text of tickets: a line for each, of 64 hex digits of either case, at most 1,000,000 of them. A line ends at
+/// LF, one CR before that is dropped, and the last may lack its LF. Empty lines and lines that begin with `;` are
+/// passed over, and counted.
 ///
 /// The fault names the first line that has no ticket, or one more than a text may have.
 pub(crate) fn read_tickets(alloc: Global, text: &[u8]) -> Result<Vec<[u8; 32]>, TicketsFault>
@@ -25,7 +26,8 @@ pub(crate) fn read_tickets(alloc: Global, text: &[u8]) -> Result<Vec<[u8; 32]>, 
     ensures found { IfOk result (λ tickets. TicketText text.now tickets.items) }
     ensures fault { IfErr result (λ fault. IfLine fault (IsBadLine text.now)) }
     // Tickets that the text has are read, and a bad line that it has is the fault, unless memory ran out.
-    ensures only { (tickets : List (List ℕ)) → TicketText text.now tickets → Gives fault_line (λ read. read.items) result (Ok tickets) }
+    ensures only { (tickets : List (List ℕ)) → TicketText text.now tickets
+        → Gives fault_line (λ read. read.items) result (Ok tickets) }
     ensures bad { (number : ℕ) → IsBadLine text.now number → Gives fault_line (λ read. read.items) result (Err number) }
 {
     read_exactly(alloc, text)

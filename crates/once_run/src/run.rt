@@ -10,10 +10,11 @@ use crate::report::Report;
 use std::alloc::Global;
 use std::thread::Threads;
 
-/// Reads a text of tickets, and claims them by so many workers, 1 to 8, on a desk with so many slots a level, 1 to 1,048,576. Says in a line
-/// for each what came of it. The text has at most 4,294,967,294 bytes.
+/// Reads a text of tickets, and claims them by so many workers, 1 to 8, on a desk with so many slots a level, 1 to
+/// 1,048,576. Says in a line for each what came of it. The text has at most 4,294,967,294 bytes.
 ///
-/// The fault names the first line of the text that has no ticket, or one more than the 1,000,000 that it may have; else it is out of memory.
+/// The fault names the first line of the text that has no ticket, or one more than the 1,000,000 that it may have; else
+/// it is out of memory.
 pub fn run_once<R: Threads + Sync>(
     rt: &R,
     alloc: Global,

@@ -1,5 +1,6 @@
 -- What the PASSporTs of a call say.
-use Rattle.std.specs.Prelude.{◌≡◌, ℕ, Bool, true, not, ◌&&◌, nat_le, List, [], ◌∷◌, ◌++◌, Option, Some, None, if◌then◌else◌, decimal}
+use Rattle.std.specs.Prelude.{◌≡◌, ℕ, Bool, true, not, ◌&&◌, nat_le, List, [], ◌∷◌, ◌++◌, Option, Some, None}
+use Rattle.std.specs.Prelude.{if◌then◌else◌, decimal}
 use Rattle.passport_json.specs.Deterministic.{Det, most_deep}
 use Rattle.serde_json.specs.Data.{Data, depth}
 use Rattle.serde_json.specs.Written.{has_float}
@@ -23,7 +24,8 @@ said_text (Some payload) = payload_text payload
 abbrev pub IsOneLine : List ℕ → Type 0
 IsOneLine text = lacks 10 text ≡ true
 
--- the number of a PASSporT's Identity field, counted from 1 in message order, a space, and the payload that was signed, on a line of its own
+-- the number of a PASSporT's Identity field, counted from 1 in message order, a space, and the payload that was signed,
+-- on a line of its own
 abbrev pub claims_line : Reading → List ℕ
 claims_line one = (decimal one.mark.field ++ 32 ∷ []) ++ (said_text (payload_of one) ++ 10 ∷ [])
 

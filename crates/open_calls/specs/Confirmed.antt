@@ -1,5 +1,6 @@
 -- Which questions for signatures a verifier confirmed, and the provider that says yes to these alone.
-use Rattle.std.specs.Prelude.{◌≡◌, ◌≢◌, ℕ, ◌==◌, Bool, false, ◌&&◌, not, List, [], ◌∷◌, Option, Some, None, if◌then◌else◌}
+use Rattle.std.specs.Prelude.{◌≡◌, ◌≢◌, ℕ, ◌==◌, Bool, false, ◌&&◌, not, List, [], ◌∷◌, Option, Some, None}
+use Rattle.std.specs.Prelude.{if◌then◌else◌}
 use Rattle.std.specs.List.{list_any, slice_get}
 use Rattle.std.specs.Str.{bytes_eq}
 use Rattle.cert_store.specs.Questions.{seen}
@@ -14,7 +15,8 @@ confirmed (asked ∷ others) (byte ∷ bytes) = if byte == 0 then confirmed othe
 
 -- the question is this one
 abbrev pub is_this : List ℕ → List ℕ → List ℕ → QuestionView → Bool
-is_this key digest signature asked = bytes_eq key asked.key && (bytes_eq digest asked.digest && bytes_eq signature asked.signature)
+is_this key digest signature asked =
+    bytes_eq key asked.key && (bytes_eq digest asked.digest && bytes_eq signature asked.signature)
 
 -- yes to these questions, and to nothing else
 abbrev pub says_by : List QuestionView → Says
@@ -43,7 +45,8 @@ is_this_at key digest signature good None = false
 is_this_at key digest signature good (Some asked) = good && is_this key digest signature (seen asked)
 
 abbrev pub was_confirmed : List Question → List ℕ → ℕ → List ℕ → List ℕ → List ℕ → Bool
-was_confirmed questions good at key digest signature = is_this_at key digest signature (is_yes (slice_get good at)) (slice_get questions at)
+was_confirmed questions good at key digest signature =
+    is_this_at key digest signature (is_yes (slice_get good at)) (slice_get questions at)
 
 -- what is confirmed, the signature that is made, if there is one, and how often it was asked
 pub record ConfirmedView : Type 0 where

@@ -25,14 +25,14 @@ abbrev pub IsFoundEarly : Call → Found → Type 0
 IsFoundEarly call (Refused refused) = first early_rules call ≡ Some refused
 IsFoundEarly call (Passes pass) = (first early_rules call ≡ None) × IsKnownBy call pass.ticket pass.last
 
--- by a provider, over what is known of the chains of its PASSporTs: refused by the rules of the call, or else by the rules of the chains (RFC 8224,
--- section 6.2)
+-- by a provider, over what is known of the chains of its PASSporTs: refused by the rules of the call, or else by the
+-- rules of the chains (RFC 8224, section 6.2)
 abbrev pub IsFoundOver : Says → Table → List State → Call → Found → Type 0
 IsFoundOver says table states call (Refused refused) =
-    (first early_rules call ≡ Some refused)
-    ⊎ ((first early_rules call ≡ None) × IsVerdict says table call.moment (in_call_order call) states 0 0 (verdicts.Refused refused))
-IsFoundOver says table states call (Passes pass) =
-    (first early_rules call ≡ None) × IsVerdict says table call.moment (in_call_order call) states 0 0 verdicts.Passed × IsKnownBy call pass.ticket pass.last
+    (first early_rules call ≡ Some refused) ⊎ ((first early_rules call ≡ None)
+    × IsVerdict says table call.moment (in_call_order call) states 0 0 (verdicts.Refused refused))
+IsFoundOver says table states call (Passes pass) = (first early_rules call ≡ None) × IsVerdict says table call.moment
+    (in_call_order call) states 0 0 verdicts.Passed × IsKnownBy call pass.ticket pass.last
 
 -- what was found of a call, for whoever explains it
 abbrev pub finding_of : Found → Finding

@@ -17,8 +17,8 @@ use Rattle.verify_rules.specs.States.{State}
 use Rattle.x509_profile.specs.View.{CertView}
 use Rattle.open_calls.specs.declared.target.Target.{Target}
 
--- the request URI of the message that goes on, the first certificate of the key's chain, if there is any, the URI of that chain, and the second of signing
--- in Unix time
+-- the request URI of the message that goes on, the first certificate of the key's chain, if there is any, the URI of
+-- that chain, and the second of signing in Unix time
 pub record TargetView : Type 0 where
   pub uri : List ℕ
   pub leaf : Option CertView
@@ -26,9 +26,11 @@ pub record TargetView : Type 0 where
   pub iat : ℕ
 
 abbrev pub target_of : Target → TargetView
-target_of target = record { uri = target.uri.now; leaf = option_copied target.leaf; x5u = target.x5u.now; iat = target.iat }
+target_of target =
+    record { uri = target.uri.now; leaf = option_copied target.leaf; x5u = target.x5u.now; iat = target.iat }
 
--- a call, the world under which it was opened, what was handed in for its PASSporTs, which of its own questions were confirmed, and its target
+-- a call, the world under which it was opened, what was handed in for its PASSporTs, which of its own questions were
+-- confirmed, and its target
 pub record Given : Type 0 where
   pub world : WorldView
   pub call : CallView
@@ -37,7 +39,8 @@ pub record Given : Type 0 where
   pub target : TargetView
 
 abbrev pub given_of : WorldView → CallView → List (Option ChainView) → List ℕ → Target → Given
-given_of world call chains good target = record { world = world; call = call; chains = chains; good = good; target = target_of target }
+given_of world call chains good target =
+    record { world = world; call = call; chains = chains; good = good; target = target_of target }
 
 -- ---- by whom and to where
 
@@ -58,8 +61,8 @@ confirmed_in given = confirmed (own_asked given.world.table (states_of given.cha
 
 -- ---- what the gateway goes by
 
--- the bytes of the message, the moment at which it came, its PASSporTs in the order in which the call went, what is known of their chains, who confirms
--- their signatures, where it goes on, and who signs
+-- the bytes of the message, the moment at which it came, its PASSporTs in the order in which the call went, what is
+-- known of their chains, who confirms their signatures, where it goes on, and who signs
 pub record Going : Type 0 where
   pub bytes : List ℕ
   pub moment : ℕ
@@ -70,11 +73,18 @@ pub record Going : Type 0 where
   pub holder : HolderView
 
 abbrev pub going_by : List ℕ → ℕ → List Reading → List State → List QuestionView → HopView → HolderView → Going
-going_by bytes moment readings states good hop holder =
-    record { bytes = bytes; moment = moment; readings = readings; states = states; says = says_by good; hop = hop; holder = holder }
+going_by bytes moment readings states good hop holder = record {
+  bytes = bytes;
+  moment = moment;
+  readings = readings;
+  states = states;
+  says = says_by good;
+  hop = hop;
+  holder = holder;
+}
 
--- The inputs are such that the gateway can go by them: the certificate has an authority list (RFC 8226, section 9), and the URI and the second are of
--- their forms.
+-- The inputs are such that the gateway can go by them: the certificate has an authority list (RFC 8226, section 9), and
+-- the URI and the second are of their forms.
 pub record IsHopOf (given : Given) (hop : HopView) (holder : HolderView) : Type 0 where
   pub hop_is : hop ≡ hop_in given
   pub valid : IsTrue (is_hop hop)

@@ -9,7 +9,8 @@ use Rattle.x509_profile.specs.Chain.{Chain}
 use Rattle.x509_profile.specs.View.{CertView}
 use Rattle.open_calls.specs.declared.key.Key.{Key}
 
--- the first certificate, if there is any; what the codes in its authority list stand for; and how the numbers of messages are read
+-- the first certificate, if there is any; what the codes in its authority list stand for; and how the numbers of
+-- messages are read
 pub record KeyView : Type 0 where
   pub leaf : Option CertView
   pub table : Table
@@ -18,7 +19,8 @@ pub record KeyView : Type 0 where
 abbrev pub key_of : Key → KeyView
 key_of key = record { leaf = option_copied key.leaf; table = key.table.now; local = key.local }
 
--- Who signs: the first certificate has this authority list (RFC 8226, section 9), and this is the table. Nothing else of the chain is asked.
+-- Who signs: the first certificate has this authority list (RFC 8226, section 9), and this is the table. Nothing else
+-- of the chain is asked.
 pub record IsHolderOf (key : KeyView) (holder : HolderView) : Type 0 where
   pub leaf : CertView
   pub leaf_is : key.leaf ≡ Some leaf

@@ -15,10 +15,12 @@ Comes going verdict = IsFinished going.says going.holder.table going.moment goin
 
 -- the bytes that go on, or the fault, are exactly these
 abbrev pub Gives : Going → (List ℕ → List ℕ → Option (List ℕ)) → Result (List ℕ) HopFault → Type 0
-Gives going signs result = GivesOnward {X = List ℕ} (λ (out : List ℕ). out) going.bytes going.readings going.hop going.holder signs result
+Gives going signs result =
+    GivesOnward {X = List ℕ} (λ (out : List ℕ). out) going.bytes going.readings going.hop going.holder signs result
 
--- The call passed. What goes on is the message with the other request URI and one more Identity field. At the next hop it breaks none of the rules of
--- the call and the chains, if the conditions hold, and its last PASSporT tells of the diversion.
+-- The call passed. What goes on is the message with the other request URI and one more Identity field. At the next hop
+-- it breaks none of the rules of the call and the chains, if the conditions hold, and its last PASSporT tells of the
+-- diversion.
 pub record IsOnward (going : Going) (signs : List ℕ → List ℕ → Option (List ℕ)) (out : List ℕ) : Type 0 where
   pub passed : Comes going Passed
   pub exact : Gives going signs (Ok out)

@@ -12,7 +12,8 @@ use Rattle.verify_rules.specs.Screened.{ScreenedView, screened_of}
 use Rattle.verify_rules.specs.Settings.{SettingsView}
 use Rattle.verify_rules.specs.declared.refusal.Refusal.{Refusal}
 
--- the settings of the world under which it was opened, the moment at which it came, in Unix seconds, and the bytes of its message
+-- the settings of the world under which it was opened, the moment at which it came, in Unix seconds, and the bytes of
+-- its message
 pub record CallView : Type 0 where
   pub settings : SettingsView
   pub moment : ℕ

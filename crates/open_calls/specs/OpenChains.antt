@@ -1,5 +1,6 @@
 -- Chains of certificates that were opened under a world: what is known of them by what their verifier confirmed.
-use Rattle.std.specs.Prelude.{◌≡◌, ⊤, ℕ, nat_lt, Bool, true, false, List, [], ◌∷◌, length, map, Option, Some, None, if◌then◌else◌}
+use Rattle.std.specs.Prelude.{◌≡◌, ⊤, ℕ, nat_lt, Bool, true, false, List, [], ◌∷◌, length, map, Option, Some, None}
+use Rattle.std.specs.Prelude.{if◌then◌else◌}
 use Rattle.x509_profile.specs.View.{CertView}
 use Rattle.cert_store.specs.Asking.{is_failed}
 use Rattle.cert_store.specs.Judged.{judged_of}
@@ -17,7 +18,8 @@ pub record ChainView : Type 0 where
 
 -- what the rules on a chain say of its bytes, by a provider; a chain has at most 49,152 bytes (this project's own rule)
 abbrev pub state_by : WorldView → Says → List ℕ → State
-state_by world says bytes = if nat_lt 49152 (length bytes) then long else have (judged_of world.anchors world.table says bytes)
+state_by world says bytes = if nat_lt 49152 (length bytes) then long
+    else have (judged_of world.anchors world.table says bytes)
 
 -- what its verifier is asked of it; it depends on no answer
 abbrev pub chain_asked : WorldView → List ℕ → List QuestionView
@@ -34,7 +36,10 @@ pub record IsChainOf (world : WorldView) (bytes good : List ℕ) (chain : ChainV
 
 -- the same chain with these of its questions confirmed
 abbrev pub with_confirmed : WorldView → ChainView → List ℕ → ChainView
-with_confirmed world chain good = record { bytes = chain.bytes; state = state_by world (says_by (confirmed (chain_questions chain.state) good)) chain.bytes }
+with_confirmed world chain good = record {
+  bytes = chain.bytes;
+  state = state_by world (says_by (confirmed (chain_questions chain.state) good)) chain.bytes;
+}
 
 -- ---- what is known of it
 
@@ -75,4 +80,5 @@ AreGiven world (one ∷ given) [] = ⊥
 AreGiven world (None ∷ given) (None ∷ chains) = AreGiven world given chains
 AreGiven world (None ∷ given) (Some chain ∷ chains) = ⊥
 AreGiven world (Some one ∷ given) (None ∷ chains) = ⊥
-AreGiven world (Some one ∷ given) (Some chain ∷ chains) = IsChainOf world one.bytes one.good chain × AreGiven world given chains
+AreGiven world (Some one ∷ given) (Some chain ∷ chains) =
+    IsChainOf world one.bytes one.good chain × AreGiven world given chains

@@ -14,9 +14,9 @@ use Rattle.open_calls.specs.declared.order.Order.TheVariants as orders
 use Rattle.open_calls.specs.declared.wanted.Wanted.{Wanted}
 use Rattle.open_calls.specs.declared.wanted.Wanted.TheVariants as wanted
 
--- Where the call of a message comes from (RFC 8224, section 4.1): the second of signing in Unix time, the number of the form, the identifier of the call
--- and the URI of the certificates. Or that the message goes to another number than before (RFC 8946, section 4.1): the second, the earlier number and
--- the URI.
+-- Where the call of a message comes from (RFC 8224, section 4.1): the second of signing in Unix time, the number of the
+-- form, the identifier of the call and the URI of the certificates. Or that the message goes to another number than
+-- before (RFC 8946, section 4.1): the second, the earlier number and the URI.
 pub data Given : Type 0 where
   origin : (iat form : ℕ) (origid x5u : List ℕ) → Given
   diversion : (iat : ℕ) (earlier x5u : List ℕ) → Given
@@ -33,9 +33,9 @@ shaken_of attest origid = if is_origid origid then Some (forms.Shaken attest ori
 
 -- 0 without a type, 1 compact (RFC 8225, section 7), and for `shaken` the letter of the attestation
 abbrev pub form_of : ℕ → List ℕ → Option Form
-form_of number origid =
-    if number == 0 then Some forms.Base else if number == 1 then Some forms.Compact else if number == 65 then shaken_of attests.A origid
-    else if number == 66 then shaken_of attests.B origid else if number == 67 then shaken_of attests.C origid else None
+form_of number origid = if number == 0 then Some forms.Base else if number == 1 then Some forms.Compact
+    else if number == 65 then shaken_of attests.A origid else if number == 66 then shaken_of attests.B origid
+    else if number == 67 then shaken_of attests.C origid else None
 
 -- ---- the order: who asks for a signature knows the key, so it has no name
 
@@ -44,7 +44,8 @@ origin_by iat x5u local form = record { shape = shape_of form; key = []; x5u = x
 
 -- of the type `div` with the earlier number
 abbrev pub diversion_by : ℕ → List ℕ → LocalView → List ℕ → OrderView
-diversion_by iat x5u local earlier = record { shape = shape_of_diversion earlier; key = []; x5u = x5u; iat = iat; local = local }
+diversion_by iat x5u local earlier =
+    record { shape = shape_of_diversion earlier; key = []; x5u = x5u; iat = iat; local = local }
 
 -- in this form; or from the earlier number, 1 to 15 bytes of digits, `*` and `#`
 abbrev pub order_in : Given → LocalView → Option OrderView

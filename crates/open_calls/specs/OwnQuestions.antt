@@ -1,5 +1,6 @@
 -- What is asked for the PASSporTs of a call by themselves, over what is known of their chains.
-use Rattle.std.specs.Prelude.{◌≡◌, ⊤, nat_lt, Bool, true, false, ◌&&◌, List, [], ◌∷◌, ◌++◌, is_none, Option, Some, None, if◌then◌else◌}
+use Rattle.std.specs.Prelude.{◌≡◌, ⊤, nat_lt, Bool, true, false, ◌&&◌, List, [], ◌∷◌, ◌++◌, is_none, Option, Some, None}
+use Rattle.std.specs.Prelude.{if◌then◌else◌}
 use Rattle.std.specs.Option.{option_map}
 use Rattle.cert_store.specs.Rules.{QuestionView, Says, is_good}
 use Rattle.call_judging.specs.AlwaysYes.{always_yes}
@@ -23,9 +24,11 @@ is_late (Some (verdicts.Unasked bad)) = false
 
 -- none of rules 1 to 15 is broken
 abbrev pub asks_own : Table → List State → Call → Bool
-asks_own table states call = is_none (first early_rules call) && is_late (option_map verdict_of (first_event always_yes table call.moment (in_call_order call) states))
+asks_own table states call = is_none (first early_rules call)
+    && is_late (option_map verdict_of (first_event always_yes table call.moment (in_call_order call) states))
 
--- the questions for these signatures under the keys of the leaves, in the order in which the call went; none if an earlier rule refuses
+-- the questions for these signatures under the keys of the leaves, in the order in which the call went; none if an
+-- earlier rule refuses
 abbrev pub own_asked : Table → List State → Call → List QuestionView
 own_asked table states call = if asks_own table states call then own_questions (in_call_order call) states else []
 

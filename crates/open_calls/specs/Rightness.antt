@@ -13,20 +13,24 @@ use Rattle.open_calls.specs.Worlds.{WorldView}
 abbrev pub SaysAsTold : Says → List QuestionView → List ℕ → Type 0
 SaysAsTold says questions good = AgreeOn says (says_by (confirmed questions good)) questions
 
--- the x5u leads to the bytes of the chain (RFC 7515, section 4.1.5), of whose questions the provider says what the host said; or to none
+-- the x5u leads to the bytes of the chain (RFC 7515, section 4.1.5), of whose questions the provider says what the host
+-- said; or to none
 abbrev pub LeadsTo : World → WorldView → List ℕ → Option GivenChain → Type 0
 LeadsTo rules world x5u None = content_of rules x5u ≡ None
-LeadsTo rules world x5u (Some one) = (content_of rules x5u ≡ Some one.bytes) × SaysAsTold rules.says (chain_asked world one.bytes) one.good
+LeadsTo rules world x5u (Some one) =
+    (content_of rules x5u ≡ Some one.bytes) × SaysAsTold rules.says (chain_asked world one.bytes) one.good
 
 abbrev pub AllLead : World → WorldView → List Reading → List (Option GivenChain) → Type 0
 AllLead rules world [] [] = ⊤
 AllLead rules world [] (one ∷ given) = ⊥
 AllLead rules world (reading ∷ readings) [] = ⊥
-AllLead rules world (reading ∷ readings) (one ∷ given) = LeadsTo rules world (x5u_in reading) one × AllLead rules world readings given
+AllLead rules world (reading ∷ readings) (one ∷ given) =
+    LeadsTo rules world (x5u_in reading) one × AllLead rules world readings given
 
--- The anchors and the codes are those of the world under which all was opened. Each PASSporT's x5u leads to what was given for it. And the provider
--- says what the host said of the chains' questions, and of the PASSporTs' own.
-pub record IsWorldFor (rules : World) (world : WorldView) (call : CallView) (given : List (Option GivenChain)) (own : List QuestionView) (good : List ℕ) : Type 0 where
+-- The anchors and the codes are those of the world under which all was opened. Each PASSporT's x5u leads to what was
+-- given for it. And the provider says what the host said of the chains' questions, and of the PASSporTs' own.
+pub record IsWorldFor (rules : World) (world : WorldView) (call : CallView) (given : List (Option GivenChain))
+    (own : List QuestionView) (good : List ℕ) : Type 0 where
   pub anchors_are : rules.anchors ≡ world.anchors
   pub table_is : rules.table ≡ world.table
   pub chains_are : AllLead rules world (judged_in call) given

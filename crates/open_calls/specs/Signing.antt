@@ -21,12 +21,14 @@ abbrev pub signs_of : Option (List ℕ) → List ℕ → List ℕ → Option (Li
 signs_of made name digest = made
 
 -- the message comes out with its field, and what is promised of it holds
-pub record GivesMessage (bytes : List ℕ) (order : OrderView) (holder : HolderView) (made : Option (List ℕ)) (out : List ℕ) : Type 0 where
+pub record GivesMessage (bytes : List ℕ) (order : OrderView) (holder : HolderView) (made : Option (List ℕ))
+    (out : List ℕ) : Type 0 where
   pub gives : signed bytes order (Some holder) (signs_of made) ≡ Ok out
   pub says : IsSigned bytes order (Some holder) (signs_of made) out
 
 -- it is refused for this fault, and the fault has its cause
-pub record GivesFault (bytes : List ℕ) (order : OrderView) (holder : HolderView) (made : Option (List ℕ)) (fault : SignFault) : Type 0 where
+pub record GivesFault (bytes : List ℕ) (order : OrderView) (holder : HolderView) (made : Option (List ℕ))
+    (fault : SignFault) : Type 0 where
   pub gives : signed bytes order (Some holder) (signs_of made) ≡ Err fault
   pub caused : IsCaused bytes order (Some holder) (signs_of made) fault
 
@@ -49,7 +51,8 @@ why_of refusals.Memory = unsigned.Input unread.Memory
 abbrev pub IsUnsignedBy : List ℕ → OrderView → HolderView → Option (List ℕ) → Unsigned → Type 0
 IsUnsignedBy bytes order holder made (unsigned.Input fault) = fault ≡ unread.Memory
 IsUnsignedBy bytes order holder made (unsigned.Withheld number) = IsNumbered (GivesFault bytes order holder made) number
-IsUnsignedBy bytes order holder made (unsigned.Digest digest) = GivesFault bytes order holder made (refusals.NoSignature digest)
+IsUnsignedBy bytes order holder made (unsigned.Digest digest) =
+    GivesFault bytes order holder made (refusals.NoSignature digest)
 
 -- ---- by what is handed in
 
@@ -59,14 +62,16 @@ pub record IsRead (key : KeyView) (given : Given) (order : OrderView) (holder : 
   pub order_is : IsOrderOf given key.local order
 
 -- the inputs are read so, and the message comes out
-pub record IsSignedBy (key : KeyView) (given : Given) (message : List ℕ) (made : Option (List ℕ)) (out : List ℕ) : Type 0 where
+pub record IsSignedBy (key : KeyView) (given : Given) (message : List ℕ) (made : Option (List ℕ))
+    (out : List ℕ) : Type 0 where
   pub order : OrderView
   pub holder : HolderView
   pub read : IsRead key given order holder
   pub gives : GivesMessage message order holder made out
 
 -- the inputs are read so, and this fault comes
-pub record IsRefusedBy (key : KeyView) (given : Given) (message : List ℕ) (made : Option (List ℕ)) (fault : SignFault) : Type 0 where
+pub record IsRefusedBy (key : KeyView) (given : Given) (message : List ℕ) (made : Option (List ℕ))
+    (fault : SignFault) : Type 0 where
   pub order : OrderView
   pub holder : HolderView
   pub read : IsRead key given order holder
@@ -88,7 +93,8 @@ IsUnread key given unread.Memory = ⊤
 abbrev pub IsUnsignedFor : KeyView → Given → List ℕ → Option (List ℕ) → Unsigned → Type 0
 IsUnsignedFor key given message made (unsigned.Input fault) = IsUnread key given fault
 IsUnsignedFor key given message made (unsigned.Withheld number) = IsNumbered (IsRefusedBy key given message made) number
-IsUnsignedFor key given message made (unsigned.Digest digest) = IsRefusedBy key given message made (refusals.NoSignature digest)
+IsUnsignedFor key given message made (unsigned.Digest digest) =
+    IsRefusedBy key given message made (refusals.NoSignature digest)
 
 -- Nothing is withheld, and what has to be signed is of this digest.
 abbrev pub IsToSign : KeyView → Given → List ℕ → List ℕ → Type 0
@@ -102,9 +108,11 @@ signature_in bytes = if length bytes == 64 then Some bytes else None
 
 -- these aren't as many bytes as a signature has; or they are, and another input is at fault
 abbrev pub IsUnreadWith : KeyView → Given → List ℕ → Unread → Type 0
-IsUnreadWith key given signature fault = ((fault ≡ unread.Signature) × (length signature ≢ 64)) ⊎ ((length signature ≡ 64) × IsUnread key given fault)
+IsUnreadWith key given signature fault =
+    ((fault ≡ unread.Signature) × (length signature ≢ 64)) ⊎ ((length signature ≡ 64) × IsUnread key given fault)
 
 abbrev pub IsUnsignedWith : KeyView → Given → List ℕ → List ℕ → Unsigned → Type 0
 IsUnsignedWith key given message signature (unsigned.Input fault) = IsUnreadWith key given signature fault
-IsUnsignedWith key given message signature (unsigned.Withheld number) = IsNumbered (IsRefusedBy key given message (Some signature)) number
+IsUnsignedWith key given message signature (unsigned.Withheld number) =
+    IsNumbered (IsRefusedBy key given message (Some signature)) number
 IsUnsignedWith key given message signature (unsigned.Digest digest) = ⊥

@@ -69,7 +69,8 @@ pub record IsHeldBy (given : Given) (made : Option (List ℕ)) (fault : HopFault
   pub going_is : IsGoing given going
   pub held : IsHeld going (signs_of made) fault
 
--- the call breaks this rule first: one of the rules of the call, or by the gateway's verdict one of the rules of the chains
+-- the call breaks this rule first: one of the rules of the call, or by the gateway's verdict one of the rules of the
+-- chains
 pub record IsRefusedEarly (given : Given) (refused : Refusal) : Type 0 where
   pub hop : HopView
   pub holder : HolderView
@@ -77,7 +78,8 @@ pub record IsRefusedEarly (given : Given) (refused : Refusal) : Type 0 where
   pub early : refused_early given.call ≡ Some refused
 
 abbrev pub IsRefusedBy : Given → Option (List ℕ) → Refusal → Type 0
-IsRefusedBy given made refused = IsRefusedEarly given refused ⊎ IsHeldBy given made (faults.Verdict (verdicts.Refused refused))
+IsRefusedBy given made refused =
+    IsRefusedEarly given refused ⊎ IsHeldBy given made (faults.Verdict (verdicts.Refused refused))
 
 -- one of the faults 21 to 25 comes, which its number names
 pub record IsHeldAs (given : Given) (made : Option (List ℕ)) (number : ℕ) : Type 0 where
@@ -110,8 +112,8 @@ IsUnmovedFor given made (unmoved.Digest digest) = IsHeldBy given made (faults.No
 
 -- these aren't as many bytes as a signature has; or they are, and another input is at fault; or memory ran out
 abbrev pub IsUnreadWith : Given → List ℕ → Unread → Type 0
-IsUnreadWith given signature fault =
-    ((fault ≡ unread.Signature) × (length signature ≢ 64)) ⊎ ((length signature ≡ 64) × IsUnread given fault) ⊎ (fault ≡ unread.Memory)
+IsUnreadWith given signature fault = ((fault ≡ unread.Signature) × (length signature ≢ 64))
+    ⊎ ((length signature ≡ 64) × IsUnread given fault) ⊎ (fault ≡ unread.Memory)
 
 abbrev pub IsUnmovedWith : Given → List ℕ → Unmoved → Type 0
 IsUnmovedWith given signature (unmoved.Input fault) = IsUnreadWith given signature fault

@@ -74,7 +74,8 @@ pub record HasAnchors (given : GivenWorld) : Type 0 where
   pub certificates : List CertView
   pub read : AnchorText given.anchors certificates
 
--- What of it is at fault. What is looked at before is read: first the settings, then the anchors, and then the table. Memory may run out in any case.
+-- What of it is at fault. What is looked at before is read: first the settings, then the anchors, and then the table.
+-- Memory may run out in any case.
 abbrev pub IsFaulty : GivenWorld → WorldFault → Type 0
 IsFaulty given faults.Settings = AreNoSettings given
 IsFaulty given faults.Anchors = HasSettings given × AreNoAnchors given.anchors

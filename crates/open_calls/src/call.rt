@@ -6,7 +6,8 @@ ghost use Rattle.verify_rules.specs.Call.{call_of};
 ghost use Rattle.verify_rules.specs.World.{First, World};
 ghost use Rattle.open_calls.specs.Claims.{claims_lines};
 ghost use Rattle.open_calls.specs.Founds.{IsFoundEarly};
-ghost use Rattle.open_calls.specs.OpenCalls.{IsEarly, IsEarlyLent, IsHeaderValue, call_in, header_in, judged_in, x5u_in};
+ghost use Rattle.open_calls.specs.OpenCalls.{IsEarly, IsEarlyLent, IsHeaderValue, call_in, header_in, judged_in};
+ghost use Rattle.open_calls.specs.OpenCalls.{x5u_in};
 
 use crate::found::Found;
 use crate::lines::claims_of;
@@ -17,8 +18,8 @@ use std::alloc::{AllocError, Global};
 use std::marker::Model;
 use verify_rules::{Refusal, ScreenFault, Screened, Settings, screen};
 
-/// A call: its message and the moment at which it came, under the settings of a world. It is screened by the rules of the call, and open too if they
-/// refuse it.
+/// A call: its message and the moment at which it came, under the settings of a world. It is screened by the rules of
+/// the call, and open too if they refuse it.
 #[derive(Drop)]
 pub struct OpenCall {
     pub(crate) settings: Settings,
@@ -39,14 +40,16 @@ impl Model for OpenCall {
 }
 
 impl OpenCall {
-    /// The call of this message, which came at this moment (Unix time, in seconds), under the settings of a world. `AllocError` is the only error.
+    /// The call of this message, which came at this moment (Unix time, in seconds), under the settings of a world.
+    /// `AllocError` is the only error.
     pub fn open(
         alloc: Global,
         world: &OpenWorld,
         moment: u64,
         message: &[u8],
     ) -> Result<OpenCall, AllocError>
-        ensures { IfOk result (λ call. call ≡ record { settings = world.now.settings; moment = moment; message = message.now }) }
+        ensures { IfOk result
+            (λ call. call ≡ record { settings = world.now.settings; moment = moment; message = message.now }) }
     {
         let settings = *world.settings();
         let screened = screened(alloc, &settings, moment, message)?;
@@ -58,7 +61,8 @@ impl OpenCall {
         })
     }
 
-    /// What comes of it by the rules of the call alone: refused, or by what it is known again if no later rule is broken.
+    /// What comes of it by the rules of the call alone: refused, or by what it is known again if no later rule is
+    /// broken.
     pub fn early(&self) -> Found
         ensures { IsFoundEarly (call_in self.now) result }
     {
@@ -79,7 +83,8 @@ impl OpenCall {
         }
     }
 
-    /// The x5u of the PASSporT at this index, in the order in which the call went: which chain the call asks for (RFC 8225, section 4.3).
+    /// The x5u of the PASSporT at this index, in the order in which the call went: which chain the call asks for (RFC
+    /// 8225, section 4.3).
     pub fn x5u(&self, i: usize) -> Option<&[u8]>
         ensures { option_copied result ≡ option_map x5u_in (slice_get (judged_in self.now) i) }
     {
@@ -89,8 +94,8 @@ impl OpenCall {
         }
     }
 
-    /// What its PASSporTs say, a line each: the number of the Identity field, and the payload that was signed. None if the rules of the call refuse
-    /// it. `AllocError` is the only error.
+    /// What its PASSporTs say, a line each: the number of the Identity field, and the payload that was signed. None if
+    /// the rules of the call refuse it. `AllocError` is the only error.
     pub fn claims(&self, alloc: Global) -> Result<Vec<u8>, AllocError>
         ensures { IfOk result (λ lines. lines.items ≡ claims_lines (judged_in self.now)) }
     {
@@ -100,9 +105,9 @@ impl OpenCall {
         }
     }
 
-    /// The value of the header field `i` of this name in its message, counted from 0; None if there are no more, or if the message can't be read. Names are
-    /// compared without case, and a compact form is its long name (RFC 3261, sections 7.3.1 and 7.3.3). Each call reads the message. `AllocError` is the
-    /// only error.
+    /// The value of the header field `i` of this name in its message, counted from 0; None if there are no more, or if
+    /// the message can't be read. Names are compared without case, and a compact form is its long name (RFC 3261,
+    /// sections 7.3.1 and 7.3.3). Each call reads the message. `AllocError` is the only error.
     pub fn header(
         &self,
         alloc: Global,

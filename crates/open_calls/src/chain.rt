@@ -7,7 +7,8 @@ ghost use Rattle.verify_rules.specs.States.{seen as state_seen};
 ghost use Rattle.call_judging.specs.Chains.{state_of};
 ghost use Rattle.call_judging.specs.CallQuestions.{chain_questions};
 ghost use Rattle.open_calls.specs.Worlds.{WorldView};
-ghost use Rattle.open_calls.specs.OpenChains.{IsChainOf, certificates_of, chain_asked, is_known, state_by, with_confirmed};
+ghost use Rattle.open_calls.specs.OpenChains.{IsChainOf, certificates_of, chain_asked, is_known, state_by};
+ghost use Rattle.open_calls.specs.OpenChains.{with_confirmed};
 
 use crate::confirmed::Confirmed;
 use crate::world::OpenWorld;
@@ -19,7 +20,8 @@ use stir_outside::Provider;
 use verify_rules::ChainState;
 use x509_profile::{Certificate, MOST_CHAIN_BYTES};
 
-/// A chain of certificates, judged under a world by what was confirmed of its signatures. In contracts it is its bytes and what is known of it.
+/// A chain of certificates, judged under a world by what was confirmed of its signatures. In contracts it is its bytes
+/// and what is known of it.
 #[derive(Drop)]
 pub struct OpenChain {
     bytes: Vec<u8>,
@@ -39,7 +41,8 @@ impl Model for OpenChain {
 }
 
 impl OpenChain {
-    /// The chain of these bytes, judged under a world. None of its questions is confirmed. `AllocError` is the only error.
+    /// The chain of these bytes, judged under a world. None of its questions is confirmed. `AllocError` is the only
+    /// error.
     #[tactic(auto, using(crate::proofs::ChainLaws::opened))]
     pub fn open(alloc: Global, world: &OpenWorld, bytes: &[u8]) -> Result<OpenChain, AllocError>
         ensures { IfOk result (IsChainOf world.now bytes.now []) }
@@ -49,23 +52,24 @@ impl OpenChain {
         Ok(chain)
     }
 
-    /// What its verifier is to confirm of it, from the leaf's signature on: at most six questions, and none if rule 11, 12 or 14 is broken. `AllocError`
-    /// is the only error.
+    /// What its verifier is to confirm of it, from the leaf's signature on: at most six questions, and none if rule 11,
+    /// 12 or 14 is broken. `AllocError` is the only error.
     #[tactic(auto, using(crate::proofs::ChainLaws::few, crate::proofs::ChainLaws::asked_of))]
     pub fn questions(&self, alloc: Global) -> Result<Vec<Question<'_>>, AllocError>
         ensures exact { IfOk result (λ asked. map seen asked.items ≡ chain_questions self.now.state) }
         ensures few { IfOk result (λ asked. length asked.items ≤ 6) }
 
         // They depend on no answer: of a chain that was opened under a world they are those of its bytes.
-        ensures same { (world : WorldView) (bytes good : List ℕ) → IsChainOf world bytes good self.now → chain_questions self.now.state ≡ chain_asked world bytes }
+        ensures same { (world : WorldView) (bytes good : List ℕ) → IsChainOf world bytes good self.now
+            → chain_questions self.now.state ≡ chain_asked world bytes }
     {
         let _few = self.length();
         let asked = chain_questions(alloc, self.state())?;
         Ok(asked)
     }
 
-    /// The same chain, judged anew under a world with these of its questions confirmed: there is a byte for each, which is 0 if it wasn't. A question
-    /// without a byte wasn't. `AllocError` is the only error.
+    /// The same chain, judged anew under a world with these of its questions confirmed: there is a byte for each, which
+    /// is 0 if it wasn't. A question without a byte wasn't. `AllocError` is the only error.
     #[tactic(auto, using(crate::proofs::ChainLaws::confirmed_of))]
     pub fn confirm(
         &self,
@@ -76,7 +80,8 @@ impl OpenChain {
         ensures exact { IfOk result (λ chain. chain ≡ with_confirmed world.now self.now good.now) }
 
         // Of a chain that was opened under this world it is the chain with these confirmed, and with those alone.
-        ensures opened { (bytes before : List ℕ) → IsChainOf world.now bytes before self.now → IfOk result (IsChainOf world.now bytes good.now) }
+        ensures opened { (bytes before : List ℕ) → IsChainOf world.now bytes before self.now
+            → IfOk result (IsChainOf world.now bytes good.now) }
     {
         let questions = self.questions(alloc)?;
         let mut provider = Confirmed::new(questions.as_slice(), good, None);
@@ -92,7 +97,8 @@ impl OpenChain {
         provider: &mut P,
     ) -> Result<OpenChain, AllocError>
         requires never_fails { (p : P) → P.faults p ≡ 0 }
-        ensures { IfOk result (λ chain. chain ≡ record { bytes = bytes.now; state = state_by world.now (P.says provider.old) bytes.now }) }
+        ensures { IfOk result (λ chain.
+            chain ≡ record { bytes = bytes.now; state = state_by world.now (P.says provider.old) bytes.now }) }
     {
         let status = judged_bytes(alloc, world, bytes, provider)?;
         Ok(OpenChain {

@@ -10,7 +10,8 @@ use std::alloc::{AllocError, Global};
 use std::marker::Model;
 use verify_rules::{ChainState, Chains};
 
-/// What was given for each PASSporT of a call, in the order in which the call went: its chain, or none. In contracts it is this list.
+/// What was given for each PASSporT of a call, in the order in which the call went: its chain, or none. In contracts it
+/// is this list.
 #[derive(Drop)]
 pub struct OpenChains<'a> {
     chains: Vec<Option<&'a OpenChain>>,

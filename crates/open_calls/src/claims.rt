@@ -11,7 +11,8 @@ use serde_json::Value;
 use std::alloc::{AllocError, Global};
 use verify_rules::Screened;
 
-/// Adds what one of them says: the number of its Identity field, and the payload that was signed. `AllocError` is the only error.
+/// Adds what one of them says: the number of its Identity field, and the payload that was signed. `AllocError` is the
+/// only error.
 #[tactic(auto, using(crate::proofs::ClaimsLaws::line_added))]
 pub(crate) fn add_claims(
     alloc: Global,
@@ -20,7 +21,8 @@ pub(crate) fn add_claims(
     text: &mut Vec<u8>,
 ) -> Result<(), AllocError>
     requires { i < length screened.now.readings }
-    ensures { (one : Reading) → slice_get screened.now.readings i ≡ Some one → OnOk result (text.new.items ≡ text.old.items ++ claims_line one) }
+    ensures { (one : Reading) → slice_get screened.now.readings i ≡ Some one
+        → OnOk result (text.new.items ≡ text.old.items ++ claims_line one) }
 {
     let number = number_text(alloc, screened.field(i))?;
     let payload = payload_text(alloc, screened.payload(i))?;
@@ -35,7 +37,8 @@ fn number_text(alloc: Global, number: u32) -> Result<String, AllocError>
     format!(in alloc; "{number} ")
 }
 
-/// A payload in its deterministic form (RFC 8225, section 9), or a hyphen if it has none. `AllocError` is the only error.
+/// A payload in its deterministic form (RFC 8225, section 9), or a hyphen if it has none. `AllocError` is the only
+/// error.
 #[tactic(auto, using(crate::proofs::ClaimsLaws::in_form, crate::proofs::ClaimsLaws::formless))]
 fn payload_text(alloc: Global, payload: &Value) -> Result<Vec<u8>, AllocError>
     ensures { IfOk result (λ text. text.items ≡ payload_text (view payload.now)) }

@@ -9,8 +9,9 @@ use cert_store::Question;
 use std::marker::Model;
 use stir_outside::{Failed, Provider};
 
-/// A provider of signatures that says yes to those questions that were confirmed and to nothing else, and has one signature for whatever it is asked to sign,
-/// or none. It never fails. A contract sees what was confirmed, that signature, and how often it was asked.
+/// A provider of signatures that says yes to those questions that were confirmed and to nothing else, and has one
+/// signature for whatever it is asked to sign, or none. It never fails. A contract sees what was confirmed, that
+/// signature, and how often it was asked.
 #[derive(Drop)]
 pub(crate) struct Confirmed<'a> {
     questions: &'a [Question<'a>],
@@ -26,11 +27,13 @@ impl<'a> Model for Confirmed<'a> {
 
     ghost Value = { ConfirmedView };
 
-    ghost view = { λ p. record { good = confirmed (map seen p.questions.now) p.good.now; made = p.made; asks = p.asks } };
+    ghost view = { λ p.
+        record { good = confirmed (map seen p.questions.now) p.good.now; made = p.made; asks = p.asks } };
 }
 
 impl<'a> Confirmed<'a> {
-    /// Of these questions those are confirmed whose byte isn't 0. One without a byte isn't. This signature is made, or none.
+    /// Of these questions those are confirmed whose byte isn't 0. One without a byte isn't. This signature is made, or
+    /// none.
     pub(crate) fn new(
         questions: &'a [Question<'a>],
         good: &'a [u8],
@@ -38,8 +41,10 @@ impl<'a> Confirmed<'a> {
     ) -> Confirmed<'a>
         ensures exact { result ≡ record { good = confirmed (map seen questions.now) good.now; made = made; asks = 0 } }
 
-        // It says yes to a question exactly if that was confirmed: it stands at a place, and the byte of that place isn't 0.
-        ensures yes { (asked : QuestionView) → IsConfirmed (map seen questions.now) good.now asked → says_by result.good asked.key asked.digest asked.signature ≡ true }
+        // It says yes to a question exactly if that was confirmed: it stands at a place, and the byte of that place
+        // isn't 0.
+        ensures yes { (asked : QuestionView) → IsConfirmed (map seen questions.now) good.now asked
+            → says_by result.good asked.key asked.digest asked.signature ≡ true }
         ensures alone { (key digest signature : List ℕ) → says_by result.good key digest signature ≡ true
             → IsConfirmed (map seen questions.now) good.now (question key digest signature) }
     {

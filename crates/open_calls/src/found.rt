@@ -29,12 +29,14 @@ impl Found {
         }
     }
 
-    /// The lines that explain the call of this number: one for each rule up to the first that is broken. `AllocError` is the only error.
+    /// The lines that explain the call of this number: one for each rule up to the first that is broken. `AllocError`
+    /// is the only error.
     pub fn explain(&self, alloc: Global, number: u32) -> Result<String, AllocError>
         ensures exact { IfOk result (λ text. string_bytes text ≡ explained number (finding_of self.now)) }
 
         // In each world in which this comes of a call they are the lines of the rules.
-        ensures right { (world : World) (call : Call) → IsFound world call self.now → IfOk result (λ text. string_bytes text ≡ Explain world number call) }
+        ensures right { (world : World) (call : Call) → IsFound world call self.now
+            → IfOk result (λ text. string_bytes text ≡ Explain world number call) }
     {
         explain_law();
         let text = explained(alloc, number, &self.finding())?;

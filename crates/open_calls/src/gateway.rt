@@ -25,9 +25,10 @@ use retarget::{Hop, HopFault, retarget};
 use std::alloc::Global;
 use verify_rules::Screened;
 
-/// What has to be signed so that a call goes on to a target, over its chains, one for each PASSporT, if these of its own questions were confirmed: there is a
-/// byte for each, which is 0 if it wasn't. Without a signature nothing goes on, at the best since there is none for a digest. The first certificate is
-/// looked at first, then the URI and the second, and then the call.
+/// What has to be signed so that a call goes on to a target, over its chains, one for each PASSporT, if these of its
+/// own questions were confirmed: there is a byte for each, which is 0 if it wasn't. Without a signature nothing goes
+/// on, at the best since there is none for a digest. The first certificate is looked at first, then the URI and the
+/// second, and then the call.
 #[tactic(auto, using(crate::proofs::MovedLaws::not_moved))]
 pub fn to_retarget(
     alloc: Global,
@@ -39,7 +40,8 @@ pub fn to_retarget(
 ) -> Unmoved
     requires one_each { length chains.now ≡ length (judged_in call.now) }
 
-    // The call passes and may go on there, and this is the digest of what has to be signed; or why it doesn't, or which input is at fault.
+    // The call passes and may go on there, and this is the digest of what has to be signed; or why it doesn't, or which
+    // input is at fault.
     ensures { IsUnmovedFor (given_of world.now call.now chains.now good.now target.now) None result }
 {
     match move_by(alloc, world, call, chains, good, target, None) {
@@ -48,8 +50,9 @@ pub fn to_retarget(
     }
 }
 
-/// The message that goes on, with the target as its request URI and one more Identity field, which has these bytes as its signature: r and s in 32 bytes
-/// each (RFC 7518, section 3.4). Whether they are a good one isn't looked at. How many they are is looked at first.
+/// The message that goes on, with the target as its request URI and one more Identity field, which has these bytes as
+/// its signature: r and s in 32 bytes each (RFC 7518, section 3.4). Whether they are a good one isn't looked at. How
+/// many they are is looked at first.
 #[tactic(auto, using(crate::proofs::MovedLaws::moved_with, crate::proofs::MovedLaws::unmoved_with, crate::proofs::MovedLaws::no_memory_with, crate::proofs::MovedLaws::no_signature))]
 pub fn retargeted(
     alloc: Global,
@@ -61,8 +64,10 @@ pub fn retargeted(
     signature: &[u8],
 ) -> Result<Vec<u8>, Unmoved>
     requires one_each { length chains.now ≡ length (judged_in call.now) }
-    ensures moved { IfOk result (λ out. IsMovedBy (given_of world.now call.now chains.now good.now target.now) (Some signature.now) out.items) }
-    ensures unmoved { IfErr result (IsUnmovedWith (given_of world.now call.now chains.now good.now target.now) signature.now) }
+    ensures moved { IfOk result
+        (λ out. IsMovedBy (given_of world.now call.now chains.now good.now target.now) (Some signature.now) out.items) }
+    ensures unmoved { IfErr result
+        (IsUnmovedWith (given_of world.now call.now chains.now good.now target.now) signature.now) }
 {
     let Some(made) = signature_in(signature) else {
         return Err(Unmoved::Input(Unread::Signature));
@@ -86,7 +91,8 @@ fn move_by(
     made: Option<[u8; 64]>,
 ) -> Result<Vec<u8>, Unmoved>
     requires one_each { length chains.now ≡ length (judged_in call.now) }
-    ensures moved { IfOk result (λ out. IsMovedBy (given_of world.now call.now chains.now good.now target.now) made out.items) }
+    ensures moved { IfOk result
+        (λ out. IsMovedBy (given_of world.now call.now chains.now good.now target.now) made out.items) }
     ensures unmoved { IfErr result (IsUnmovedFor (given_of world.now call.now chains.now good.now target.now) made) }
 {
     let local = call.settings().local;
@@ -141,8 +147,11 @@ fn onward(
     requires screened { IsScreenedFor bytes.now moment hop.now.local screened.now }
     requires one_each { length (states_of chains.now) ≡ length screened.now.readings }
     requires hop { IsTrue (is_hop (hop_of hop.now)) }
-    ensures onward { IfOk result (λ out. IsOnward (going_by bytes.now moment screened.now.readings (states_of chains.now) host.old.good (hop_of hop.now) (holder_of holder.now)) (signs_of host.old.made) out.items) }
-    ensures held { IfErr result (IsHeld (going_by bytes.now moment screened.now.readings (states_of chains.now) host.old.good (hop_of hop.now) (holder_of holder.now)) (signs_of host.old.made)) }
+    ensures onward { IfOk result
+        (λ out. IsOnward (going_by bytes.now moment screened.now.readings (states_of chains.now) host.old.good
+        (hop_of hop.now) (holder_of holder.now)) (signs_of host.old.made) out.items) }
+    ensures held { IfErr result (IsHeld (going_by bytes.now moment screened.now.readings (states_of chains.now)
+        host.old.good (hop_of hop.now) (holder_of holder.now)) (signs_of host.old.made)) }
     ensures named { IfErr result IsNamed }
 {
     chains.known();

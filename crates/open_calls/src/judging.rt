@@ -44,8 +44,8 @@ pub struct Asked<'a> {
 }
 
 impl OpenCall {
-    /// What its verifier is to confirm of its PASSporTs over these chains, one for each PASSporT, and what comes of it if all of that is confirmed.
-    /// `AllocError` is the only error.
+    /// What its verifier is to confirm of its PASSporTs over these chains, one for each PASSporT, and what comes of it
+    /// if all of that is confirmed. `AllocError` is the only error.
     pub fn questions<'a>(
         &'a self,
         alloc: Global,
@@ -53,11 +53,13 @@ impl OpenCall {
         chains: &'a OpenChains<'_>,
     ) -> Result<Asked<'a>, AllocError>
         requires one_each { length chains.now ≡ length (judged_in self.now) }
-        ensures asked { IfOk result (λ asked. map seen asked.questions.items ≡ own_asked world.now.table (states_of chains.now) (call_in self.now)) }
+        ensures asked { IfOk result (λ asked.
+            map seen asked.questions.items ≡ own_asked world.now.table (states_of chains.now) (call_in self.now)) }
 
         // By whoever confirms all of them this comes of the call.
-        ensures found { (says : Says) → Confirms says (own_asked world.now.table (states_of chains.now) (call_in self.now))
-            → IfOk result (λ asked. IsFoundOver says world.now.table (states_of chains.now) (call_in self.now) asked.found) }
+        ensures found { (says : Says)
+            → Confirms says (own_asked world.now.table (states_of chains.now) (call_in self.now)) → IfOk result
+            (λ asked. IsFoundOver says world.now.table (states_of chains.now) (call_in self.now) asked.found) }
     {
         unasked_law();
         match &self.screened {
@@ -69,8 +71,8 @@ impl OpenCall {
         }
     }
 
-    /// What comes of it over these chains, one for each PASSporT, if these of its own questions were confirmed: there is a byte for each, which is 0 if it
-    /// wasn't. A question without a byte wasn't. `AllocError` is the only error.
+    /// What comes of it over these chains, one for each PASSporT, if these of its own questions were confirmed: there
+    /// is a byte for each, which is 0 if it wasn't. A question without a byte wasn't. `AllocError` is the only error.
     pub fn judge(
         &self,
         alloc: Global,
@@ -81,13 +83,16 @@ impl OpenCall {
         requires one_each { length chains.now ≡ length (judged_in self.now) }
 
         // What the rules say over exactly these chains and these answers.
-        ensures exact { IfOk result (IsFoundOver (says_by (confirmed (own_asked world.now.table (states_of chains.now) (call_in self.now)) good.now)) world.now.table (states_of chains.now)
-            (call_in self.now)) }
+        ensures exact { IfOk result (IsFoundOver
+            (says_by (confirmed (own_asked world.now.table (states_of chains.now) (call_in self.now)) good.now))
+            world.now.table (states_of chains.now) (call_in self.now)) }
 
-        // In each world that leads to the chains that were given, and whose provider says what the host said of them and of these questions, it is what
-        // comes of the call by all rules.
+        // In each world that leads to the chains that were given, and whose provider says what the host said of them
+        // and of these questions, it is what comes of the call by all rules.
         ensures right { (rules : World) (given : List (Option GivenChain)) → AreGiven world.now given chains.now
-            → IsWorldFor rules world.now self.now given (own_asked world.now.table (states_of chains.now) (call_in self.now)) good.now → IfOk result (IsFound rules (call_in self.now)) }
+            → IsWorldFor rules world.now self.now given
+            (own_asked world.now.table (states_of chains.now) (call_in self.now)) good.now
+            → IfOk result (IsFound rules (call_in self.now)) }
     {
         unasked_law();
         judged_law();
@@ -115,8 +120,8 @@ impl OpenCall {
         }
     }
 
-    /// The lines of an answers file that confirms all that is asked over these chains: of the chains, and of the PASSporTs by themselves. `AllocError` is
-    /// the only error.
+    /// The lines of an answers file that confirms all that is asked over these chains: of the chains, and of the
+    /// PASSporTs by themselves. `AllocError` is the only error.
     #[tactic(auto, using(crate::proofs::LineLaws::both_lines))]
     pub fn lines(
         &self,
@@ -125,7 +130,8 @@ impl OpenCall {
         chains: &OpenChains<'_>,
     ) -> Result<Vec<u8>, AllocError>
         requires one_each { length chains.now ≡ length (judged_in self.now) }
-        ensures { IfOk result (λ lines. lines.items ≡ ask_lines (all_asked world.now.table (states_of chains.now) (call_in self.now))) }
+        ensures { IfOk result
+            (λ lines. lines.items ≡ ask_lines (all_asked world.now.table (states_of chains.now) (call_in self.now))) }
     {
         let mut text = Vec::new(alloc);
         add_chains(alloc, chains, &mut text)?;
@@ -193,8 +199,10 @@ fn finish_with<P: Provider>(
 /// What comes of a screened call by its verdict, if that leaves nothing open.
 fn found_of(verdict: Verdict, screened: &Screened) -> Found
     requires decided { IsDecided verdict }
-    ensures { (call : RuledCall) (says : Says) (table : Table) (states : List State) → IsScreenedBy early_rules call (Ok screened.now)
-        → IsVerdict says table call.moment (in_call_order call) states 0 0 verdict → IsFoundOver says table states call result }
+    ensures { (call : RuledCall) (says : Says) (table : Table) (states : List State)
+        → IsScreenedBy early_rules call (Ok screened.now)
+        → IsVerdict says table call.moment (in_call_order call) states 0 0 verdict
+        → IsFoundOver says table states call result }
 {
     match verdict {
         Verdict::Passed => Found::Passes(pass_of(screened)),

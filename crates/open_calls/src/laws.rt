@@ -11,11 +11,12 @@ ghost use Rattle.open_calls.specs.Key.{HasLeaf, LeafIs};
 use cert_store::judged_law;
 use x509_profile::chain_law;
 
-/// The first certificate of a judged chain is the first of those that its bytes are, one after another; and if it has none, the bytes are no certificates.
-/// More bytes than a chain may have are none.
+/// The first certificate of a judged chain is the first of those that its bytes are, one after another; and if it has
+/// none, the bytes are no certificates. More bytes than a chain may have are none.
 #[tactic(auto, using(crate::proofs::KeyLaws::judged_leaf))]
 pub fn leaf_law()
-    ensures judged { (anchors : List CertView) (table : Table) (says : Says) (bytes : List ℕ) → AllBytes bytes → LeafIs bytes (slice_get (judged_of anchors table says bytes).certificates 0) }
+    ensures judged { (anchors : List CertView) (table : Table) (says : Says) (bytes : List ℕ) → AllBytes bytes
+        → LeafIs bytes (slice_get (judged_of anchors table says bytes).certificates 0) }
     ensures long { (bytes : List ℕ) (leaf : CertView) → 49152 < length bytes → HasLeaf bytes leaf → ⊥ }
 {
     chain_law();

@@ -1,5 +1,5 @@
-//! What C opens and works with: a world that is read once, chains that are judged once, a call that is read once and judged over them, and messages that are
-//! signed or sent on by a chain that is open.
+//! What C opens and works with: a world that is read once, chains that are judged once, a call that is read once and
+//! judged over them, and messages that are signed or sent on by a chain that is open.
 //!
 //! # The way through
 //!
@@ -15,11 +15,14 @@
 //!    v retargeted, by the signature                                the message that goes on (RFC 8946, section 4; RFC 3261, section 16.6)
 //! ```
 //!
-//! - The host says which chain is whose: [`OpenChains`] has one for each PASSporT, or none, in the order in which the call went.
-//! - A chain and a call have questions for signatures. The host has them verified, and tells by a byte for each which are confirmed.
+//! - The host says which chain is whose: [`OpenChains`] has one for each PASSporT, or none, in the order in which the
+//!   call went.
+//! - A chain and a call have questions for signatures. The host has them verified, and tells by a byte for each which
+//!   are confirmed.
 //! - [`Found`] is what comes of a call, and explains itself in lines.
-//! - A [`Key`] is by what is signed: the first certificate of the signer's chain, the code table and the local numbering under which it was opened. An [`Order`]
-//!   is what is to be signed: where a call comes from, or that it goes to another number than before.
+//! - A [`Key`] is by what is signed: the first certificate of the signer's chain, the code table and the local
+//!   numbering under which it was opened. An [`Order`] is what is to be signed: where a call comes from, or that it
+//!   goes to another number than before.
 //! - A [`Target`] says where an open call goes on, by which first certificate of the signer's chain, and when.
 //!
 //! ```rust
@@ -40,19 +43,22 @@
 //!
 //! # What it isn't
 //!
-//! No rule is decided here: `cert_store` judges chains, `verify_rules` calls, `auth_service` what is signed, and `retarget` what goes on. No file is read, no
-//! key is held, no signature is made or verified, no thread is started, and no ticket is remembered. Of a signer's chain nothing but its first certificate is
-//! asked: no path, no date and no signature of it.
+//! No rule is decided here: `cert_store` judges chains, `verify_rules` calls, `auth_service` what is signed, and
+//! `retarget` what goes on. No file is read, no key is held, no signature is made or verified, no thread is started,
+//! and no ticket is remembered. Of a signer's chain nothing but its first certificate is asked: no path, no date and no
+//! signature of it.
 //!
 //! # What is proved
 //!
-//! A world is the one that the bytes are, or the first input that is none is named. What is known of a chain is what the rules say of its bytes under
-//! its world, by what was confirmed. The verdict is what the rules say over exactly these chains and answers; and it is the first rule that is broken
-//! in each world that leads to these chains and whose provider says what the host said. Nothing is left open.
+//! A world is the one that the bytes are, or the first input that is none is named. What is known of a chain is what
+//! the rules say of its bytes under its world, by what was confirmed. The verdict is what the rules say over exactly
+//! these chains and answers; and it is the first rule that is broken in each world that leads to these chains and whose
+//! provider says what the host said. Nothing is left open.
 //!
-//! The digest is that of the PASSporT which the order asks for; or the fault is told, with its cause in the message, the order and the holder. The message
-//! that comes out is read back as the one that was signed. Of a call that goes on the digest, each fault and the message are what `retarget` promises by a
-//! provider that confirms what the host confirmed, and has the signature that was handed in or none. `docs/dev/PROVED.md` has the clauses.
+//! The digest is that of the PASSporT which the order asks for; or the fault is told, with its cause in the message,
+//! the order and the holder. The message that comes out is read back as the one that was signed. Of a call that goes on
+//! the digest, each fault and the message are what `retarget` promises by a provider that confirms what the host
+//! confirmed, and has the signature that was handed in or none. `docs/dev/PROVED.md` has the clauses.
 //!
 //! # Cases
 //!

@@ -15,15 +15,16 @@ pub enum Order<'a> {
     Origin {
         /// When it is signed, in Unix seconds, at most 253,402,300,799.
         iat: u64,
-        /// 0 without a type, 1 compact (RFC 8225, section 7), and for `shaken` the letter of the attestation (RFC 8588, section 4).
+        /// 0 without a type, 1 compact (RFC 8225, section 7), and for `shaken` the letter of the attestation (RFC 8588,
+        /// section 4).
         form: u8,
         /// The identifier of the call, a UUID in 36 characters, if the form is `shaken`; else it isn't looked at.
         origid: &'a [u8],
         /// The URI of the key's certificates, 1 to 2,048 bytes.
         x5u: &'a [u8],
     },
-    /// That it goes to another number than before (RFC 8946, section 4.1): a PASSporT of the type `div` from the calling number to that of the
-    /// request URI.
+    /// That it goes to another number than before (RFC 8946, section 4.1): a PASSporT of the type `div` from the
+    /// calling number to that of the request URI.
     Diversion {
         /// When it is signed, in Unix seconds, at most 253,402,300,799.
         iat: u64,

@@ -33,11 +33,13 @@ fn sign_by(
     }
 }
 
-/// What has to be signed so that a message gets the Identity field of an order (RFC 8224, section 4.1; RFC 8946, section 4.1): without a signature nothing
-/// is signed, at the best since there is none for a digest. The key's first certificate is looked at first, and then the order.
+/// What has to be signed so that a message gets the Identity field of an order (RFC 8224, section 4.1; RFC 8946,
+/// section 4.1): without a signature nothing is signed, at the best since there is none for a digest. The key's first
+/// certificate is looked at first, and then the order.
 #[tactic(auto, using(crate::proofs::SigningLaws::not_signed))]
 pub fn to_sign(alloc: Global, key: &Key<'_>, order: &Order<'_>, message: &[u8]) -> Unsigned
-    // Nothing is withheld, and this is the digest of what has to be signed; or why nothing may be, or which input is at fault.
+    // Nothing is withheld, and this is the digest of what has to be signed; or why nothing may be, or which input is at
+    // fault.
     ensures { IsUnsignedFor (key_of key.now) (given_of order.now) message.now None result }
 {
     match sign_by(alloc, key, order, message, None) {
@@ -46,8 +48,8 @@ pub fn to_sign(alloc: Global, key: &Key<'_>, order: &Order<'_>, message: &[u8]) 
     }
 }
 
-/// The message with its Identity field, which has these bytes as its signature: r and s in 32 bytes each (RFC 7518, section 3.4). Whether they are a
-/// good one isn't looked at. How many they are is looked at first.
+/// The message with its Identity field, which has these bytes as its signature: r and s in 32 bytes each (RFC 7518,
+/// section 3.4). Whether they are a good one isn't looked at. How many they are is looked at first.
 #[tactic(auto, using(crate::proofs::SigningLaws::signed_with, crate::proofs::SigningLaws::unsigned_with, crate::proofs::SigningLaws::no_signature))]
 pub fn signed(
     alloc: Global,
@@ -56,7 +58,8 @@ pub fn signed(
     message: &[u8],
     signature: &[u8],
 ) -> Result<Vec<u8>, Unsigned>
-    ensures signed { IfOk result (λ out. IsSignedBy (key_of key.now) (given_of order.now) message.now (Some signature.now) out.items) }
+    ensures signed { IfOk result
+        (λ out. IsSignedBy (key_of key.now) (given_of order.now) message.now (Some signature.now) out.items) }
     ensures unsigned { IfErr result (IsUnsignedWith (key_of key.now) (given_of order.now) message.now signature.now) }
 {
     let Some(made) = signature_in(signature) else {

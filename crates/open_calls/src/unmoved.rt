@@ -13,8 +13,9 @@ pub enum Unmoved {
     Input(Unread),
     /// The call breaks this rule first.
     Refused(Refusal),
-    /// The call can't go on there: 21 the target gives no number, 22 the call has been at it, 23 there is no room for one field or one diversion more,
-    /// 24 the message would be longer than 65,535 bytes, 25 the first certificate doesn't cover the number that was called before.
+    /// The call can't go on there: 21 the target gives no number, 22 the call has been at it, 23 there is no room for
+    /// one field or one diversion more, 24 the message would be longer than 65,535 bytes, 25 the first certificate
+    /// doesn't cover the number that was called before.
     Held(u8),
     /// There is no signature for this digest.
     Digest([u8; 32]),

@@ -5,7 +5,8 @@
 pub enum Unread {
     /// The key's chain isn't certificates one after another, or its first has no authority list (RFC 8226, section 9).
     Certificate,
-    /// What is to be signed isn't an order: its form, its URI, its second, the identifier of the call or the earlier number.
+    /// What is to be signed isn't an order: its form, its URI, its second, the identifier of the call or the earlier
+    /// number.
     Order,
     /// The signature hasn't 64 bytes.
     Signature,

@@ -41,7 +41,8 @@ impl Wanted<'_> {
         made: Option<[u8; 64]>,
     ) -> Result<Vec<u8>, Unsigned>
         requires { IsTrue (is_order (wanted_of self.now)) }
-        ensures signed { IfOk result (λ out. GivesMessage message.now (wanted_of self.now) (holder_of holder.now) made out.items) }
+        ensures signed { IfOk result
+            (λ out. GivesMessage message.now (wanted_of self.now) (holder_of holder.now) made out.items) }
         ensures unsigned { IfErr result (IsUnsignedBy message.now (wanted_of self.now) (holder_of holder.now) made) }
     {
         match self.sign_once(alloc, message, holder, made) {
@@ -60,7 +61,8 @@ impl Wanted<'_> {
         made: Option<[u8; 64]>,
     ) -> Result<Vec<u8>, SignFault>
         requires { IsTrue (is_order (wanted_of self.now)) }
-        ensures promised { IsPromised (λ out. out.items) message.now (wanted_of self.now) (Some (holder_of holder.now)) (signs_of made) result }
+        ensures promised { IsPromised (λ out. out.items) message.now (wanted_of self.now) (Some (holder_of holder.now))
+            (signs_of made) result }
         ensures steady { IfErr result (λ fault. is_provider fault ≡ false) }
     {
         let mut signer = Confirmed::new(&[], &[], made);

@@ -57,7 +57,8 @@ impl Model for OpenWorld {
 impl OpenWorld {
     ghost use Rattle.open_calls.specs.Worlds.{IsFaulty, IsWorldOf, given_world};
 
-    /// The world that these are. They are looked at in this order: the settings, the anchors, the table; and the first that is none is the fault.
+    /// The world that these are. They are looked at in this order: the settings, the anchors, the table; and the first
+    /// that is none is the fault.
     pub fn read(
         alloc: Global,
         setting: &WorldSetting<'_>,

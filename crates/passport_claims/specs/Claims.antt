@@ -1,5 +1,5 @@
--- What a PASSporT says by its header and payload (RFC 8225, sections 4 and 5; RFC 8588, section 4; RFC 8946, section 4), for the
--- type and the certificate's URI that its Identity header field has (RFC 8224, section 4).
+-- What a PASSporT says by its header and payload (RFC 8225, sections 4 and 5; RFC 8588, section 4; RFC 8946, section
+-- 4), for the type and the certificate's URI that its Identity header field has (RFC 8224, section 4).
 use Rattle.std.specs.Prelude.{◌≡◌, ℕ, List, length, Option, codes}
 use Rattle.serde_json.specs.Data.{Data}
 use Rattle.serde_json.specs.Find.{get}

@@ -1,4 +1,5 @@
--- In which form the PASSporT of a call's origin is signed: without a type, in full or compact (RFC 8225, section 7), or `shaken` (RFC 8588).
+-- In which form the PASSporT of a call's origin is signed: without a type, in full or compact (RFC 8225, section 7), or
+-- `shaken` (RFC 8588).
 use Rattle.passport_claims.specs.declared.form.Form.{Form}
 use Rattle.passport_claims.specs.declared.form.Form.TheVariants as forms
 use Rattle.passport_claims.specs.declared.kind.Kind.{Kind}

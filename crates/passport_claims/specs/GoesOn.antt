@@ -14,7 +14,8 @@ abbrev pub IsNewTo : List ClaimsView → List ℕ → List ℕ → List ℕ → 
 IsNewTo links [] called number = number ≡ called → ⊥
 IsNewTo links (first ∷ later) called number = IsApartFrom links first number
 
--- The links, of which there are at most 7, are in this order up to the link's div; and the call hasn't been at the link's dest.
+-- The links, of which there are at most 7, are in this order up to the link's div; and the call hasn't been at the
+-- link's dest.
 pub record GoesOn (origin : ClaimsView) (links : List ClaimsView) (turn : List ℕ) (link : ClaimsView) : Type 0 where
   pub few : length links ≤ 7
   pub order : IsOrder origin links (Some (div_of link)) turn

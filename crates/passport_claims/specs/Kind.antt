@@ -1,4 +1,5 @@
--- The types of a PASSporT that are judged and signed here: without a type (RFC 8225), `shaken` (RFC 8588) and `div` (RFC 8946).
+-- The types of a PASSporT that are judged and signed here: without a type (RFC 8225), `shaken` (RFC 8588) and `div`
+-- (RFC 8946).
 use Rattle.std.specs.Prelude.{◌≡◌, ◌⊎◌, ℕ, List, Option, Some, None, codes, if◌then◌else◌}
 use Rattle.std.specs.Str.{bytes_eq}
 use Rattle.text_grammar.specs.Bytes.{is_letter}
@@ -32,8 +33,8 @@ ppt_of (kinds.Div number) = Some (codes "div")
 abbrev pub IsTypeText : List ℕ → Type 0
 IsTypeText text = Run is_letter 6 text
 
--- the claims that a type adds: the attestation and the identifier of the call of `shaken` (RFC 8588, section 4), and the number of `div` that was
--- called before the diversion (RFC 8946, section 4.1)
+-- the claims that a type adds: the attestation and the identifier of the call of `shaken` (RFC 8588, section 4), and
+-- the number of `div` that was called before the diversion (RFC 8946, section 4.1)
 abbrev pub level_in : Kind → Option Attest
 level_in kinds.Base = None
 level_in (kinds.Shaken level origid) = Some level

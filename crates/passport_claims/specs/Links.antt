@@ -1,5 +1,5 @@
--- The links of a diverted call (RFC 8946, section 3): its PASSporTs of type `div`, one for each diversion. A link is spoken of by its
--- number, which counts from 1 in the order of the message.
+-- The links of a diverted call (RFC 8946, section 3): its PASSporTs of type `div`, one for each diversion. A link is
+-- spoken of by its number, which counts from 1 in the order of the message.
 use Rattle.std.specs.Prelude.{◌≡◌, ℕ, ◌-◌, ◌≤◌, List, [], ◌∷◌, Some, codes, unwrap_or, slice_index_or, ⊤}
 use Rattle.std.specs.List.{slice_get}
 use Rattle.std.specs.Option.{option_map_or}

@@ -18,7 +18,8 @@ is_called_count kind count = nat_le 1 count && nat_le count (most_called (ppt_of
 abbrev pub has_origid : Kind → Bool
 has_origid kind = option_map_or is_origid (origid_in kind) true
 
--- the PASSporT of these parts, or the first part that is refused: the URI, the time, how many are called, the identifier
+-- the PASSporT of these parts, or the first part that is refused: the URI, the time, how many are called, the
+-- identifier
 unfoldable pub made : Kind → List ℕ → ℕ → List ℕ → List (List ℕ) → Result ClaimsView ClaimFault
 made kind x5u iat orig dest =
     if not (is_uri x5u) then Err faults.X5u

@@ -1,5 +1,6 @@
 -- What a member of a header or a payload is (RFC 8225, sections 4 and 5): a text, a number, or the called numbers.
-use Rattle.std.specs.Prelude.{◌≡◌, ℕ, suc, true, ◌&&◌, nat_le, List, [], ◌∷◌, ◌++◌, Option, Some, None, option_and_then, codes, if◌then◌else◌}
+use Rattle.std.specs.Prelude.{◌≡◌, ℕ, suc, true, ◌&&◌, nat_le, List, [], ◌∷◌, ◌++◌, Option, Some, None, option_and_then}
+use Rattle.std.specs.Prelude.{codes, if◌then◌else◌}
 use Rattle.std.specs.List.{list_all}
 use Rattle.serde_json.specs.Data.{Data, string, array, Items, no_items, item}
 use Rattle.serde_json.specs.Find.{get, as_array, as_str}
@@ -53,7 +54,8 @@ numbers_after found (item value others) =
 
 -- the numbers of an array, if it has some and at most so many
 abbrev pub numbers_of : ℕ → Items → Option (List (List ℕ))
-numbers_of most items = if nat_le 1 (items_length items) && nat_le (items_length items) most then numbers_after [] items else None
+numbers_of most items =
+    if nat_le 1 (items_length items) && nat_le (items_length items) most then numbers_after [] items else None
 
 abbrev pub called_in : ℕ → Data → Option (List (List ℕ))
 called_in most value = option_and_then (numbers_of most) (option_and_then as_array (tn_in (codes "dest") value))

@@ -1,5 +1,5 @@
--- The order in which a diverted call went (RFC 8946, section 4.2): from a number that its originating PASSporT calls, by one diversion
--- after another, to the number that is called now.
+-- The order in which a diverted call went (RFC 8946, section 4.2): from a number that its originating PASSporT calls,
+-- by one diversion after another, to the number that is called now.
 use Rattle.std.specs.Prelude.{◌≡◌, ℕ, ◌==◌, ◌≤◌, Bool, true, List, [], ◌∷◌, length, Option, Some, ⊤, Contains}
 use Rattle.std.specs.List.{list_any}
 use Rattle.passport_claims.specs.Passport.{ClaimsView}
@@ -33,11 +33,14 @@ Follow links link (next ∷ later) = (div_at links next ≡ dest_at links link) 
 
 -- the dests of all links are distinct, and the div of the first is none of them
 pub record AreApart (links : List ClaimsView) (first : ℕ) : Type 0 where
-  pub dests : (one other : ℕ) → IsOneOf (length links) one → IsOneOf (length links) other → dest_at links one ≡ dest_at links other → one ≡ other
+  pub dests : (one other : ℕ) → IsOneOf (length links) one → IsOneOf (length links) other
+      → dest_at links one ≡ dest_at links other → one ≡ other
   pub start : (link : ℕ) → IsOneOf (length links) link → dest_at links link ≡ div_at links first → ⊥
 
--- an unbroken way: the first div is one of these dests, each later div is the dest before it, and the last dest is called
-pub record IsWay (dests : List (List ℕ)) (links : List ClaimsView) (called : Option (List ℕ)) (first : ℕ) (later : List ℕ) : Type 0 where
+-- an unbroken way: the first div is one of these dests, each later div is the dest before it, and the last dest is
+-- called
+pub record IsWay (dests : List (List ℕ)) (links : List ClaimsView) (called : Option (List ℕ)) (first : ℕ)
+    (later : List ℕ) : Type 0 where
   pub start : Contains dests (div_at links first)
   pub follow : Follow links first later
   pub end : called ≡ Some (dest_at links (last_of first later))
@@ -51,9 +54,10 @@ abbrev pub Way : List (List ℕ) → List ClaimsView → Option (List ℕ) → L
 Way dests links called [] = IsCalled dests called
 Way dests links called (first ∷ later) = IsWay dests links called first later
 
--- The links, of which there are at most 8 (this project's own limit), are in this order: each once, as an unbroken way from the originating PASSporT to the
--- called number.
-pub record IsOrder (origin : ClaimsView) (links : List ClaimsView) (called : Option (List ℕ)) (turn : List ℕ) : Type 0 where
+-- The links, of which there are at most 8 (this project's own limit), are in this order: each once, as an unbroken way
+-- from the originating PASSporT to the called number.
+pub record IsOrder (origin : ClaimsView) (links : List ClaimsView) (called : Option (List ℕ))
+    (turn : List ℕ) : Type 0 where
   pub few : length links ≤ 8
   pub once : ListsOnce (length links) turn
   pub way : Way origin.dest links called turn

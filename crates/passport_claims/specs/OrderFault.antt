@@ -1,4 +1,5 @@
--- Why links are in no order, and which link shows it: the first of five faults, tried one after another (this project's own order; RFC 8946, section 4.2).
+-- Why links are in no order, and which link shows it: the first of five faults, tried one after another (this project's
+-- own order; RFC 8946, section 4.2).
 use Rattle.std.specs.Prelude.{◌≡◌, ◌⊎◌, ℕ, suc, zero, ◌-◌, ◌<◌, ◌≤◌, List, length, Option, Some, Contains}
 use Rattle.passport_claims.specs.Passport.{ClaimsView}
 use Rattle.passport_claims.specs.Links.{IsOneOf, dest_at, div_at}
@@ -19,8 +20,8 @@ OfNone Holds count = (link : ℕ) → IsOneOf count link → Holds link → ⊥
 
 -- its div is its own dest, or an earlier link has its div, or an earlier link has its dest
 abbrev pub Repeats : List ClaimsView → ℕ → Type 0
-Repeats links link = (div_at links link ≡ dest_at links link)
-    ⊎ ((other : ℕ) × IsOneOf (link - 1) other × ((div_at links other ≡ div_at links link) ⊎ (dest_at links other ≡ dest_at links link)))
+Repeats links link = (div_at links link ≡ dest_at links link) ⊎ ((other : ℕ) × IsOneOf (link - 1) other
+    × ((div_at links other ≡ div_at links link) ⊎ (dest_at links other ≡ dest_at links link)))
 
 -- its div is no link's dest
 abbrev pub MayStart : List ClaimsView → ℕ → Type 0
@@ -29,8 +30,8 @@ MayStart links link = OfNone (λ other. dest_at links other ≡ div_at links lin
 -- it is the start, or is reached from it in so many steps, each from a dest to the link that has it as div
 abbrev pub ReachedIn : List ClaimsView → ℕ → ℕ → ℕ → Type 0
 ReachedIn links start zero link = link ≡ start
-ReachedIn links start (suc steps) link =
-    (before : ℕ) × IsOneOf (length links) before × ReachedIn links start steps before × (div_at links link ≡ dest_at links before)
+ReachedIn links start (suc steps) link = (before : ℕ) × IsOneOf (length links) before
+    × ReachedIn links start steps before × (div_at links link ≡ dest_at links before)
 
 abbrev pub IsLeft : List ClaimsView → ℕ → ℕ → Type 0
 IsLeft links start link = (steps : ℕ) → ReachedIn links start steps link → ⊥
@@ -95,14 +96,16 @@ pub record Cut (dests : List (List ℕ)) (links : List ClaimsView) (fault : Chai
   pub starts : IsStart dests links start
   pub left : IsFirst (IsLeft links start) (length links) fault.link
 
--- 5: the call ends elsewhere: there are no links, and the called number is none of these dests; or all links are reached, and the dest of the last
--- isn't the called number
-pub record EndsAtOnce (dests : List (List ℕ)) (links : List ClaimsView) (called : Option (List ℕ)) (link : ℕ) : Type 0 where
+-- 5: the call ends elsewhere: there are no links, and the called number is none of these dests; or all links are
+-- reached, and the dest of the last isn't the called number
+pub record EndsAtOnce (dests : List (List ℕ)) (links : List ClaimsView)
+    (called : Option (List ℕ)) (link : ℕ) : Type 0 where
   pub none : length links ≡ 0
   pub named : link ≡ 0
   pub elsewhere : IsCalled dests called → ⊥
 
-pub record EndsLater (dests : List (List ℕ)) (links : List ClaimsView) (called : Option (List ℕ)) (link : ℕ) : Type 0 where
+pub record EndsLater (dests : List (List ℕ)) (links : List ClaimsView)
+    (called : Option (List ℕ)) (link : ℕ) : Type 0 where
   pub few : length links ≤ 8
   pub apart : OfNone (Repeats links) (length links)
   pub start : ℕ
@@ -112,11 +115,12 @@ pub record EndsLater (dests : List (List ℕ)) (links : List ClaimsView) (called
   pub last : IsLast links link
   pub elsewhere : called ≡ Some (dest_at links link) → ⊥
 
-pub record Called (dests : List (List ℕ)) (links : List ClaimsView) (called : Option (List ℕ)) (fault : ChainFault) : Type 0 where
+pub record Called (dests : List (List ℕ)) (links : List ClaimsView) (called : Option (List ℕ))
+    (fault : ChainFault) : Type 0 where
   pub kind : fault.kind ≡ 5
   pub ends : EndsAtOnce dests links called fault.link ⊎ EndsLater dests links called fault.link
 
 -- the links are in no order, and this is why
 abbrev pub IsFault : ClaimsView → List ClaimsView → Option (List ℕ) → ChainFault → Type 0
-IsFault origin links called fault = Many links fault
-    ⊎ (Repeat links fault ⊎ (Start origin.dest links fault ⊎ (Cut origin.dest links fault ⊎ Called origin.dest links called fault)))
+IsFault origin links called fault = Many links fault ⊎ (Repeat links fault
+    ⊎ (Start origin.dest links fault ⊎ (Cut origin.dest links fault ⊎ Called origin.dest links called fault)))

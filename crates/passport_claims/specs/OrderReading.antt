@@ -1,5 +1,6 @@
 -- The order of the links, or the first fault, as a function: what is tried, one after another.
-use Rattle.std.specs.Prelude.{ℕ, zero, suc, ◌==◌, ◌+◌, ◌-◌, Bool, false, ◌||◌, not, nat_lt, List, [], ◌∷◌, length, Option, Some, None, is_some, Result, Ok, Err, if◌then◌else◌}
+use Rattle.std.specs.Prelude.{ℕ, zero, suc, ◌==◌, ◌+◌, ◌-◌, Bool, false, ◌||◌, not, nat_lt, List, [], ◌∷◌, length}
+use Rattle.std.specs.Prelude.{Option, Some, None, is_some, Result, Ok, Err, if◌then◌else◌}
 use Rattle.std.specs.List.{list_any}
 use Rattle.std.specs.Option.{option_map_or}
 use Rattle.std.specs.Str.{bytes_eq}
@@ -21,11 +22,13 @@ first_from test number (suc room) = if test number then Some number else first_f
 
 -- the other link has its div or its dest
 unfoldable pub is_twin : List ClaimsView → ℕ → ℕ → Bool
-is_twin links link other = bytes_eq (div_at links other) (div_at links link) || bytes_eq (dest_at links other) (dest_at links link)
+is_twin links link other =
+    bytes_eq (div_at links other) (div_at links link) || bytes_eq (dest_at links other) (dest_at links link)
 
 -- its div is its own dest, or an earlier link has its div or its dest
 unfoldable pub repeats : List ClaimsView → ℕ → Bool
-repeats links link = bytes_eq (div_at links link) (dest_at links link) || is_some (first_from (is_twin links link) 1 (link - 1))
+repeats links link =
+    bytes_eq (div_at links link) (dest_at links link) || is_some (first_from (is_twin links link) 1 (link - 1))
 
 -- its dest is this number
 unfoldable pub leads_to : List ClaimsView → List ℕ → ℕ → Bool
@@ -56,7 +59,8 @@ only_start dests links start None = if is_one_of dests (div_at links start) then
 
 abbrev pub start_in : List (List ℕ) → List ClaimsView → Option ℕ → Result ℕ ChainFault
 start_in dests links None = Err (fault_at 3 1)
-start_in dests links (Some start) = only_start dests links start (first_from (may_start links) (start + 1) (length links - start))
+start_in dests links (Some start) =
+    only_start dests links start (first_from (may_start links) (start + 1) (length links - start))
 
 unfoldable pub start_of : List (List ℕ) → List ClaimsView → Result ℕ ChainFault
 start_of dests links = start_in dests links (first_from (may_start links) 1 (length links))
@@ -64,8 +68,8 @@ start_of dests links = start_in dests links (first_from (may_start links) 1 (len
 -- the links by which the call went on from this number, at most so many
 unfoldable pub walk : List ClaimsView → ℕ → List ℕ → List ℕ
 walk links zero number = []
-walk links (suc room) number =
-    option_map_or (λ link. link ∷ walk links room (dest_at links link)) (first_from (leads_from links number) 1 (length links)) []
+walk links (suc room) number = option_map_or (λ link. link ∷ walk links room (dest_at links link))
+    (first_from (leads_from links number) 1 (length links)) []
 
 -- the links after the start
 abbrev pub behind : List ClaimsView → ℕ → List ℕ
@@ -87,8 +91,8 @@ undiverted dests called = if calls_one_of dests called then Ok [] else Err (faul
 
 -- the way from the start, if its last dest is called
 abbrev pub ended : List ClaimsView → Option (List ℕ) → ℕ → List ℕ → Result (List ℕ) ChainFault
-ended links called start later =
-    if calls called (dest_at links (last_of start later)) then Ok (start ∷ later) else Err (fault_at 5 (last_of start later))
+ended links called start later = if calls called (dest_at links (last_of start later)) then Ok (start ∷ later)
+    else Err (fault_at 5 (last_of start later))
 
 -- and if it leaves no link
 abbrev pub unless_left : List ClaimsView → Option (List ℕ) → ℕ → List ℕ → Option ℕ → Result (List ℕ) ChainFault
@@ -96,8 +100,8 @@ unless_left links called start later (Some link) = Err (fault_at 4 link)
 unless_left links called start later None = ended links called start later
 
 unfoldable pub way_from : List ClaimsView → Option (List ℕ) → ℕ → Result (List ℕ) ChainFault
-way_from links called start =
-    unless_left links called start (behind links start) (first_from (is_left (start ∷ behind links start)) 1 (length links))
+way_from links called start = unless_left links called start (behind links start)
+    (first_from (is_left (start ∷ behind links start)) 1 (length links))
 
 -- a call that was diverted
 abbrev pub started : List ClaimsView → Option (List ℕ) → Result ℕ ChainFault → Result (List ℕ) ChainFault
@@ -107,7 +111,8 @@ started links called (Ok start) = way_from links called start
 -- no link repeats
 abbrev pub unless_repeated : List (List ℕ) → List ClaimsView → Option (List ℕ) → Option ℕ → Result (List ℕ) ChainFault
 unless_repeated dests links called (Some link) = Err (fault_at 2 link)
-unless_repeated dests links called None = if length links == 0 then undiverted dests called else started links called (start_of dests links)
+unless_repeated dests links called None = if length links == 0 then undiverted dests called
+    else started links called (start_of dests links)
 
 -- the numbers of the links in the order in which the call went, or the first fault
 unfoldable pub order_of : ClaimsView → List ClaimsView → Option (List ℕ) → Result (List ℕ) ChainFault

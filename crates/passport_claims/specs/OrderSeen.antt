@@ -18,8 +18,8 @@ pub record IsFilled (order : Order) : Type 0 where
   pub turns : length (turn_of order) ≡ order.length
   pub rest : drop order.length order.turn ≡ replicate (8 - order.length) 0
 
--- An order of so many links has as many entries, and each of these is the number of a link, so that it can be looked up without a test. After them come
--- zeros.
+-- An order of so many links has as many entries, and each of these is the number of a link, so that it can be looked up
+-- without a test. After them come zeros.
 pub record IsTurn (links : ℕ) (order : Order) : Type 0 where
   pub all : order.length ≡ links
   pub few : order.length ≤ 8

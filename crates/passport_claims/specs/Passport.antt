@@ -1,5 +1,6 @@
 -- What a PASSporT says (RFC 8225, sections 4 and 5; RFC 8588, section 4; RFC 8946, section 4).
-use Rattle.std.specs.Prelude.{◌≡◌, ℕ, ◌≤◌, Bool, true, false, List, length, Option, Some, None, IfSome, codes, if◌then◌else◌}
+use Rattle.std.specs.Prelude.{◌≡◌, ℕ, ◌≤◌, Bool, true, false, List, length, Option, Some, None, IfSome, codes}
+use Rattle.std.specs.Prelude.{if◌then◌else◌}
 use Rattle.std.specs.List.{list_all}
 use Rattle.std.specs.Option.{option_map}
 use Rattle.std.specs.Str.{bytes_eq}
@@ -10,8 +11,8 @@ use Rattle.passport_claims.specs.Kind.{attest_text, div_in, level_in, origid_in,
 use Rattle.passport_claims.specs.Origid.{IsOrigid}
 use Rattle.passport_claims.specs.declared.kind.Kind.{Kind}
 
--- its type with the claims of that type, the certificate's URI, when it was issued in Unix seconds, the calling number and the
--- called ones
+-- its type with the claims of that type, the certificate's URI, when it was issued in Unix seconds, the calling number
+-- and the called ones
 pub record ClaimsView : Type 0 where
   pub kind : Kind
   pub x5u : List ℕ

@@ -1,6 +1,6 @@
--- Why header and payload are not those of a PASSporT, for the type and the certificate's URI that its Identity header field has: the claims in
--- their order, each in the words of its standard (RFC 8225, sections 4 and 5; RFC 8588, sections 4 and 5; RFC 8946, section 4.1). The faults and
--- their order are this project's own.
+-- Why header and payload are not those of a PASSporT, for the type and the certificate's URI that its Identity header
+-- field has: the claims in their order, each in the words of its standard (RFC 8225, sections 4 and 5; RFC 8588,
+-- sections 4 and 5; RFC 8946, section 4.1). The faults and their order are this project's own.
 use Rattle.std.specs.Prelude.{◌≡◌, ℕ, List, length, Option, codes}
 use Rattle.serde_json.specs.Data.{Data}
 use Rattle.serde_json.specs.Find.{get}
@@ -53,22 +53,26 @@ pub record HasCalled (header payload : Data) (ppt : Option (List ℕ)) (info : L
 -- the first claim that is broken
 pub data Refused (header payload : Data) (ppt : Option (List ℕ)) (info : List ℕ) (fault : ClaimFault) : Type 0 where
   -- Kind: `typ` isn't the text `passport`
-  wrong_typ : (HasText (codes "typ") (codes "passport") header → ⊥) → fault ≡ faults.Kind → Refused header payload ppt info fault
+  wrong_typ : (HasText (codes "typ") (codes "passport") header → ⊥) → fault ≡ faults.Kind
+      → Refused header payload ppt info fault
   -- Alg: `alg` isn't the text `ES256`
-  wrong_alg : HasText (codes "typ") (codes "passport") header → (HasText (codes "alg") (codes "ES256") header → ⊥) → fault ≡ faults.Alg
-      → Refused header payload ppt info fault
+  wrong_alg : HasText (codes "typ") (codes "passport") header → (HasText (codes "alg") (codes "ES256") header → ⊥)
+      → fault ≡ faults.Alg → Refused header payload ppt info fault
   -- Ppt: `ppt` isn't the field's type, or is there though the field has none
-  wrong_ppt : IsSigned256 header → (get (codes "ppt") header ≡ text_where ppt → ⊥) → fault ≡ faults.Ppt → Refused header payload ppt info fault
+  wrong_ppt : IsSigned256 header → (get (codes "ppt") header ≡ text_where ppt → ⊥) → fault ≡ faults.Ppt
+      → Refused header payload ppt info fault
   -- X5u: `x5u` isn't the field's URI, byte for byte
-  wrong_x5u : IsOfFieldType header ppt → (HasText (codes "x5u") info header → ⊥) → fault ≡ faults.X5u → Refused header payload ppt info fault
+  wrong_x5u : IsOfFieldType header ppt → (HasText (codes "x5u") info header → ⊥) → fault ≡ faults.X5u
+      → Refused header payload ppt info fault
   -- Iat: `iat` is no time
-  wrong_iat : HasHeader header ppt info → ((seconds : ℕ) → IsIssuedAt payload seconds → ⊥) → fault ≡ faults.Iat → Refused header payload ppt info fault
+  wrong_iat : HasHeader header ppt info → ((seconds : ℕ) → IsIssuedAt payload seconds → ⊥) → fault ≡ faults.Iat
+      → Refused header payload ppt info fault
   -- Orig: `orig` is no number
-  wrong_orig : HasTime header payload ppt info → ((number : List ℕ) → HasNumber (codes "orig") payload number → ⊥) → fault ≡ faults.Orig
-      → Refused header payload ppt info fault
+  wrong_orig : HasTime header payload ppt info → ((number : List ℕ) → HasNumber (codes "orig") payload number → ⊥)
+      → fault ≡ faults.Orig → Refused header payload ppt info fault
   -- Dest: `dest` isn't 1 to 32 numbers, or for `div` isn't one
-  wrong_dest : HasCalling header payload ppt info
-      → ((numbers : List (List ℕ)) → HasNumbers payload numbers → IsCalledCount ppt (length numbers) → ⊥) → fault ≡ faults.Dest
-      → Refused header payload ppt info fault
+  wrong_dest : HasCalling header payload ppt info → ((numbers : List (List ℕ)) → HasNumbers payload numbers
+      → IsCalledCount ppt (length numbers) → ⊥) → fault ≡ faults.Dest → Refused header payload ppt info fault
   -- and those of the type's own claims
-  wrong_type : HasCalled header payload ppt info → IsTypeRefused payload ppt fault → Refused header payload ppt info fault
+  wrong_type : HasCalled header payload ppt info → IsTypeRefused payload ppt fault
+      → Refused header payload ppt info fault

@@ -1,5 +1,5 @@
--- What is signed of a PASSporT (RFC 8225, section 9; RFC 7515, section 2): its deterministic header and payload; and that it is read again
--- with any signature, in the full form and in the compact one (RFC 8225, section 7).
+-- What is signed of a PASSporT (RFC 8225, section 9; RFC 7515, section 2): its deterministic header and payload; and
+-- that it is read again with any signature, in the full form and in the compact one (RFC 8225, section 7).
 use Rattle.std.specs.Prelude.{◌≡◌, ℕ, List, length, Some, Ok, IsTrue, IsUtf8}
 use Rattle.base64.specs.GeneralPurpose.{IsBytes}
 use Rattle.passport_json.specs.Compact.{CallView, base_of}
@@ -29,7 +29,8 @@ payload_of claims = Det (Payload (members_of claims))
 abbrev pub signing_of : ClaimsView → List ℕ
 signing_of claims = Signing (header_of claims) (payload_of claims)
 
--- The text is, for this call, a token of the PASSporT with this signature: it is read as a token, and the token's claims as the PASSporT's.
+-- The text is, for this call, a token of the PASSporT with this signature: it is read as a token, and the token's
+-- claims as the PASSporT's.
 pub record IsTokenOf (text : List ℕ) (call : CallView) (claims : ClaimsView) (signature : List ℕ) : Type 0 where
   pub token : TokenView
   pub is_token : TokenText text call token
@@ -39,10 +40,12 @@ pub record IsTokenOf (text : List ℕ) (call : CallView) (claims : ClaimsView) (
   pub says : Claims token.header token.payload (ppt_of claims.kind) claims.x5u claims
   pub said : read_claims token.header token.payload (ppt_of claims.kind) claims.x5u ≡ Ok claims
 
--- What is signed of the PASSporT is, with any signature, a token of it: in its full form for each call, and in its compact form for a call that gives what
--- the PASSporT says. The full form can be in an Identity header field if one number is called.
+-- What is signed of the PASSporT is, with any signature, a token of it: in its full form for each call, and in its
+-- compact form for a call that gives what the PASSporT says. The full form can be in an Identity header field if one
+-- number is called.
 pub record IsSignable (claims : ClaimsView) : Type 0 where
-  pub full : (signature : List ℕ) (call : CallView) → IsSignature signature → IsTokenOf (full_text (signing_of claims) signature) call claims signature
+  pub full : (signature : List ℕ) (call : CallView) → IsSignature signature
+      → IsTokenOf (full_text (signing_of claims) signature) call claims signature
   pub compact : (signature : List ℕ) (call : CallView) → IsSignature signature → base_of call ≡ Some (members_of claims)
       → IsTokenOf (compact_text signature) call claims signature
   pub fits : (signature : List ℕ) → IsSignature signature → IsTrue (is_uri claims.x5u) → length claims.dest ≡ 1

@@ -4,7 +4,8 @@ ghost use Rattle.std.specs.Result.{IsOkAnd};
 ghost use Rattle.passport_claims.specs.Links.{IsLink, IsOneOf};
 ghost use Rattle.passport_claims.specs.Order.{IsOrder, is_among, last_of};
 ghost use Rattle.passport_claims.specs.OrderFault.{IsFault};
-ghost use Rattle.passport_claims.specs.OrderReading.{behind, calls, first_from, is_left, order_of, start_of, undiverted, way_from};
+ghost use Rattle.passport_claims.specs.OrderReading.{behind, calls, first_from, is_left, order_of, start_of};
+ghost use Rattle.passport_claims.specs.OrderReading.{undiverted, way_from};
 ghost use Rattle.passport_claims.specs.OrderSeen.{IsFilled, IsTurn, order_seen, turn_of};
 
 use crate::links::{dest, div, link_from, repeated, start_behind};
@@ -13,12 +14,13 @@ use crate::passport::Passport;
 use crate::passports::Passports;
 use tn_values::Number;
 
-/// The order in which a diverted call went (RFC 8946, section 4.2), from its originating PASSporT to the number that is called now. Its links are the
-/// PASSporTs of type `div`, in the order of the message.
+/// The order in which a diverted call went (RFC 8946, section 4.2), from its originating PASSporT to the number that is
+/// called now. Its links are the PASSporTs of type `div`, in the order of the message.
 ///
-/// Each link is there once. The div of the first is a number that the originating PASSporT calls. The div of each later one is the dest of the one before
-/// it. The dest of the last is the called number. These numbers are distinct, and there are at most 8 links. Without links the originating PASSporT calls
-/// that number. There is one such order at most; if there is none, the fault is the first of those of [`ChainFault`].
+/// Each link is there once. The div of the first is a number that the originating PASSporT calls. The div of each later
+/// one is the dest of the one before it. The dest of the last is the called number. These numbers are distinct, and
+/// there are at most 8 links. Without links the originating PASSporT calls that number. There is one such order at
+/// most; if there is none, the fault is the first of those of [`ChainFault`].
 #[tactic(auto, using(crate::proofs::OrderFaultLaws::order_found, crate::proofs::OrderFaultLaws::order_only, crate::proofs::OrderFaultLaws::fault_found, crate::proofs::OrderLaws::order_unique))]
 pub fn chain(
     origin: &Passport,
@@ -32,8 +34,10 @@ pub fn chain(
 
     // An answer is an order, each order is the answer, and there is one at most.
     ensures found { IfOk result (λ order. IsOrder origin.now links.now called (turn_of order)) }
-    ensures only { (turn : List ℕ) → IsOrder origin.now links.now called turn → IsOkAnd result (λ order. turn_of order ≡ turn) }
-    ensures unique { (one other : List ℕ) → IsOrder origin.now links.now called one → IsOrder origin.now links.now called other → one ≡ other }
+    ensures only { (turn : List ℕ) → IsOrder origin.now links.now called turn
+        → IsOkAnd result (λ order. turn_of order ≡ turn) }
+    ensures unique { (one other : List ℕ) → IsOrder origin.now links.now called one
+        → IsOrder origin.now links.now called other → one ≡ other }
 
     // It has as many entries as there are links, each the number of one.
     ensures turn { IfOk result (λ order. IsTurn (length links.now) order) }

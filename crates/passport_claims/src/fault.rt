@@ -3,8 +3,8 @@ ghost use Rattle.std.specs.Prelude.{◌≡◌};
 use std::alloc::{AllocError, AllocFailed};
 use thiserror::Error;
 
-/// Why header and payload are not those of a PASSporT, or why there is no PASSporT of some parts: the first claim that is
-/// broken, in this order.
+/// Why header and payload are not those of a PASSporT, or why there is no PASSporT of some parts: the first claim that
+/// is broken, in this order.
 #[derive(Clone, Copy, Debug, PartialEq, Eq, Error)]
 pub enum ClaimFault {
     /// The header's `typ` is not the text `passport` (RFC 8225, section 4.1).

@@ -61,7 +61,8 @@ pub enum Kind {
 }
 
 impl Kind {
-    /// The type as a header and an Identity header field have it (RFC 8225, section 8.1): none, `shaken` or `div`, one to six letters.
+    /// The type as a header and an Identity header field have it (RFC 8225, section 8.1): none, `shaken` or `div`, one
+    /// to six letters.
     #[tactic(auto, using(crate::proofs::KindLaws::type_text))]
     pub fn ppt(&self) -> Option<&'static str>
         ensures exact { option_copied result ≡ ppt_of self.now }

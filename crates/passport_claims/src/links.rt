@@ -1,4 +1,5 @@
-//! What is asked of the links of a diverted call, its PASSporTs of type `div`, each spoken of by its number, which counts from 1.
+//! What is asked of the links of a diverted call, its PASSporTs of type `div`, each spoken of by its number, which
+//! counts from 1.
 ghost use Rattle.std.specs.Prelude.{◌≡◌, ◌+◌, ◌-◌, ◌≤◌, All, IfSome, length};
 ghost use Rattle.passport_claims.specs.Links.{IsLink, IsOneOf, dest_at, div_at, div_of, dest_of};
 ghost use Rattle.passport_claims.specs.OrderReading.{first_from, is_twin, leads_from, leads_to, may_start, repeats};
@@ -142,7 +143,8 @@ pub(crate) fn start_behind<L: Passports>(links: &L, before: u8) -> Option<u8>
     requires links { All IsLink (L.list links.now) }
     requires few { length (L.list links.now) ≤ 8 }
     requires within { before ≤ length (L.list links.now) }
-    ensures first { result ≡ first_from (may_start (L.list links.now)) (before + 1) (length (L.list links.now) - before) }
+    ensures first { result
+        ≡ first_from (may_start (L.list links.now)) (before + 1) (length (L.list links.now) - before) }
     ensures within { IfSome result (IsOneOf (length (L.list links.now))) }
 {
     for link in before + 1..links.count() as u8 + 1 {

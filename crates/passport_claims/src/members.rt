@@ -2,7 +2,8 @@
 ghost use Rattle.std.specs.Prelude.{◌≡◌, ◌&&◌, nat_le, []};
 ghost use Rattle.std.specs.Option.{option_copied, option_map};
 ghost use Rattle.serde_json.specs.View.{items_view, view};
-ghost use Rattle.passport_claims.specs.Members.{called_in, items_length, number_in, number_of, numbers_after, numbers_of, text_in, tn_in};
+ghost use Rattle.passport_claims.specs.Members.{called_in, items_length, number_in, number_of, numbers_after};
+ghost use Rattle.passport_claims.specs.Members.{numbers_of, text_in, tn_in};
 ghost use Rattle.passport_claims.specs.Read.{has_text, has_text_where};
 ghost use Rattle.passport_claims.specs.Reading.{Gives, or_fault};
 ghost use Rattle.passport_claims.specs.declared.fault.ClaimFault.{ClaimFault};
@@ -95,14 +96,16 @@ pub(crate) fn called_in(
 /// Whether there are some values, and at most so many.
 #[tactic(auto, using(crate::proofs::MemberLaws::items_counted))]
 fn is_count(items: &[Value], most: usize) -> bool
-    ensures { result ≡ (nat_le 1 (items_length (items_view items.now)) && nat_le (items_length (items_view items.now)) most) }
+    ensures { result ≡ (nat_le 1 (items_length (items_view items.now))
+        && nat_le (items_length (items_view items.now)) most) }
 {
     1 <= items.len() && items.len() <= most
 }
 
 /// The numbers that the values are.
 fn numbers_of(alloc: Global, items: &[Value]) -> Result<Vec<Number>, ClaimFault>
-    ensures { Gives (λ numbers. numbers.items) result (or_fault ClaimFault.Dest (numbers_after [] (items_view items.now))) }
+    ensures { Gives (λ numbers. numbers.items) result
+        (or_fault ClaimFault.Dest (numbers_after [] (items_view items.now))) }
 {
     let mut numbers = Vec::new(alloc);
     'numbers: for item in items {

@@ -8,7 +8,8 @@ use std::fmt;
 /// How many links an order has at most (this project's own limit).
 pub(crate) const MOST_LINKS: usize = 8;
 
-/// The links of a diverted call, its PASSporTs of type `div`, in the order in which the call went (RFC 8946, section 4.2).
+/// The links of a diverted call, its PASSporTs of type `div`, in the order in which the call went (RFC 8946, section
+/// 4.2).
 #[derive(Clone, Copy, Debug, PartialEq, Eq)]
 pub struct Order {
     /// How many links there are, at most 8.
@@ -31,13 +32,13 @@ impl ChainFault {
     pub const MANY: u8 = 1;
     /// The link's div is its own dest, or an earlier link has its div or its dest. The link is the first of these.
     pub const REPEAT: u8 = 2;
-    /// There is no start: no link has a div that is no link's dest, and the link is 1; or several have, and it is the second of these;
-    /// or one has, it is this one, and the originating PASSporT doesn't call its div.
+    /// There is no start: no link has a div that is no link's dest, and the link is 1; or several have, and it is the
+    /// second of these; or one has, it is this one, and the originating PASSporT doesn't call its div.
     pub const START: u8 = 3;
     /// The link isn't reached from the start. It is the first of these.
     pub const CUT: u8 = 4;
-    /// The call ends elsewhere: the dest of the link, the last one, isn't the called number; or there are no links, the originating
-    /// PASSporT doesn't call that number, and the link is 0.
+    /// The call ends elsewhere: the dest of the link, the last one, isn't the called number; or there are no links, the
+    /// originating PASSporT doesn't call that number, and the link is 0.
     pub const CALLED: u8 = 5;
 
     /// The fault of this kind at this link.

@@ -21,8 +21,8 @@ use std::str;
 use text_grammar::{LAST_SECOND, is_uri};
 use tn_values::Number;
 
-/// What a PASSporT says: its type with the claims of that type, the certificate's URI, when it was issued, the calling number
-/// and the called ones. In contracts it is the record of these five.
+/// What a PASSporT says: its type with the claims of that type, the certificate's URI, when it was issued, the calling
+/// number and the called ones. In contracts it is the record of these five.
 #[derive(Debug, Drop)]
 pub struct Passport {
     kind: Kind,
@@ -38,15 +38,18 @@ impl Model for Passport {
 
     ghost Value = { ClaimsView };
 
-    ghost view = { λ p. record { kind = p.kind; x5u = string_bytes p.x5u; iat = p.iat; orig = p.orig; dest = p.dest.items } };
+    ghost view = { λ p.
+        record { kind = p.kind; x5u = string_bytes p.x5u; iat = p.iat; orig = p.orig; dest = p.dest.items } };
 
-    ghost invariant = { λ p. IsPassport (record { kind = p.kind; x5u = string_bytes p.x5u; iat = p.iat; orig = p.orig; dest = p.dest.items }) };
+    ghost invariant = { λ p. IsPassport
+        (record { kind = p.kind; x5u = string_bytes p.x5u; iat = p.iat; orig = p.orig; dest = p.dest.items }) };
 }
 
 impl Passport {
-    /// Reads the claims of a token (RFC 8225, sections 4 and 5), for the type and the certificate's URI that its Identity header
-    /// field has. The claims are tried in the order of [`ClaimFault`], and the first that is broken is the fault. `Attest` and
-    /// `Origid` are looked at only for `shaken`, and `Div` only for `div`. Members that aren't named there are passed over.
+    /// Reads the claims of a token (RFC 8225, sections 4 and 5), for the type and the certificate's URI that its
+    /// Identity header field has. The claims are tried in the order of [`ClaimFault`], and the first that is broken is
+    /// the fault. `Attest` and `Origid` are looked at only for `shaken`, and `Div` only for `div`. Members that aren't
+    /// named there are passed over.
     ///
     /// The type is none, `shaken` or `div`.
     #[tactic(auto, using(crate::proofs::ClaimsLaws::claims_found, crate::proofs::ClaimsLaws::claims_only_of, crate::proofs::ClaimsLaws::claims_unique, crate::proofs::RefusedLaws::claims_refused))]
@@ -57,24 +60,30 @@ impl Passport {
         info: &[u8],
     ) -> Result<Passport, ClaimFault>
         requires { IsKnown (option_copied ppt) }
-        ensures exact { Gives (λ passport. passport) result (read_claims token.now.header token.now.payload (option_copied ppt.entry) info.now) }
-        ensures found { IfOk result (λ passport. Claims token.now.header token.now.payload (option_copied ppt.entry) info.now passport) }
-        ensures only { (claims : ClaimsView) → Claims token.now.header token.now.payload (option_copied ppt.entry) info.now claims
+        ensures exact { Gives (λ passport. passport) result
+            (read_claims token.now.header token.now.payload (option_copied ppt.entry) info.now) }
+        ensures found { IfOk result
+            (λ passport. Claims token.now.header token.now.payload (option_copied ppt.entry) info.now passport) }
+        ensures only { (claims : ClaimsView)
+            → Claims token.now.header token.now.payload (option_copied ppt.entry) info.now claims
             → IsOkUnlessMemory result (λ passport. passport ≡ claims) }
-        ensures unique { (one other : ClaimsView) → Claims token.now.header token.now.payload (option_copied ppt.entry) info.now one
+        ensures unique { (one other : ClaimsView)
+            → Claims token.now.header token.now.payload (option_copied ppt.entry) info.now one
             → Claims token.now.header token.now.payload (option_copied ppt.entry) info.now other → one ≡ other }
 
         // A fault is the first claim that is broken, and the first that is broken is the fault.
-        ensures refused { IfRefused result (Refused token.now.header token.now.payload (option_copied ppt.entry) info.now) }
-        ensures only_refused { (fault : ClaimFault) → Refused token.now.header token.now.payload (option_copied ppt.entry) info.now fault
+        ensures refused { IfRefused result
+            (Refused token.now.header token.now.payload (option_copied ppt.entry) info.now) }
+        ensures only_refused { (fault : ClaimFault)
+            → Refused token.now.header token.now.payload (option_copied ppt.entry) info.now fault
             → Gives (λ passport. passport) result (Err fault) }
     {
         claims_of(alloc, token, ppt, info)
     }
 
-    /// The PASSporT of these parts. The URI is 1 to 2,048 visible ASCII bytes without `"`, `<`, `>` and backslash; `iat` is at
-    /// most 253,402,300,799; 1 to 32 numbers are called, and exactly one for `div`; the identifier of the call is a UUID in 36
-    /// characters. What isn't so is refused as `X5u`, `Iat`, `Dest` and `Origid`, in this order.
+    /// The PASSporT of these parts. The URI is 1 to 2,048 visible ASCII bytes without `"`, `<`, `>` and backslash;
+    /// `iat` is at most 253,402,300,799; 1 to 32 numbers are called, and exactly one for `div`; the identifier of the
+    /// call is a UUID in 36 characters. What isn't so is refused as `X5u`, `Iat`, `Dest` and `Origid`, in this order.
     #[tactic(auto, using(crate::proofs::PassportLaws::made_meets), unfolding(crate::specs::Made::made))]
     pub fn new(
         alloc: Global,
@@ -166,7 +175,8 @@ fn claims_of(
     info: &[u8],
 ) -> Result<Passport, ClaimFault>
     requires { IsKnown (option_copied ppt) }
-    ensures { Gives (λ passport. passport) result (read_claims token.now.header token.now.payload (option_copied ppt.entry) info.now) }
+    ensures { Gives (λ passport. passport) result
+        (read_claims token.now.header token.now.payload (option_copied ppt.entry) info.now) }
 {
     let x5u = checked_header(token.header(), ppt, info)?;
     let Some(iat) = token.issued_at() else {

@@ -13,11 +13,11 @@ use serde_json::Value;
 use std::alloc::{AllocError, Global};
 
 impl Passport {
-    /// The text that is signed for it (RFC 7515, section 2): base64url of its deterministic header, a dot, and base64url of its deterministic payload (RFC
-    /// 8225, section 9). An error says that memory ran out.
+    /// The text that is signed for it (RFC 7515, section 2): base64url of its deterministic header, a dot, and
+    /// base64url of its deterministic payload (RFC 8225, section 9). An error says that memory ran out.
     ///
-    /// With any signature it is a token of this PASSporT: reading it and its claims gives the same again. So it is in the compact form
-    /// (RFC 8225, section 7), for a call that gives what the PASSporT says.
+    /// With any signature it is a token of this PASSporT: reading it and its claims gives the same again. So it is in
+    /// the compact form (RFC 8225, section 7), for a call that gives what the PASSporT says.
     pub fn signing_text(&self) -> Result<Vec<u8>, AllocError>
         ensures exact { IfOk result (λ text. text.items ≡ signing_of self.now) }
         ensures signable { IfOk result (λ text. IsSignable self.now) }

@@ -27,8 +27,10 @@ impl Passport {
         ensures header { IfOk result (λ values. view values.0 ≡ Header (members_of self.now)) }
         ensures payload { IfOk result (λ values. view values.1 ≡ Payload (members_of self.now)) }
         ensures writable { IfOk result (λ values. IsWritable (view values.0) × IsWritable (view values.1)) }
-        ensures reads_back { IfOk result (λ values. Claims (view values.0) (view values.1) (ppt_of self.now.kind) self.now.x5u self.now) }
-        ensures read_again { IfOk result (λ values. read_claims (view values.0) (view values.1) (ppt_of self.now.kind) self.now.x5u ≡ Ok self.now) }
+        ensures reads_back { IfOk result
+            (λ values. Claims (view values.0) (view values.1) (ppt_of self.now.kind) self.now.x5u self.now) }
+        ensures read_again { IfOk result
+            (λ values. read_claims (view values.0) (view values.1) (ppt_of self.now.kind) self.now.x5u ≡ Ok self.now) }
     {
         let alloc = self.alloc();
         let header = self.header(alloc)?;

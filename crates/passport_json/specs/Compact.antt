@@ -43,7 +43,8 @@ base_by None orig dest info ppt = None
 abbrev pub base_of : CallView → Option PassportView
 base_of call = base_by call.iat call.orig call.dest call.info call.ppt
 
--- the token that a PASSporT and its signature are: the deterministic header and payload, and what is signed made of them
+-- the token that a PASSporT and its signature are: the deterministic header and payload, and what is signed made of
+-- them
 abbrev pub rebuilt : PassportView → List ℕ → TokenView
 rebuilt passport signature = record {
   header = Header passport;

@@ -4,7 +4,8 @@ use Rattle.std.specs.Coded.{Coded}
 use Rattle.std.specs.Float.Ieee.{Float, nan, inf, fin}
 use base.Stored.{Gv, gnil, gnum, gcons}
 use mathlib.Core.Path.{sym, ◌∙◌, ap}
-use Rattle.serde_json.specs.Data.{Num, unsigned, negative, float, Data, null, boolean, number, string, array, object, Items, no_items, item, Members, no_members, member}
+use Rattle.serde_json.specs.Data.{Num, unsigned, negative, float, Data, null, boolean, number, string, array, object}
+use Rattle.serde_json.specs.Data.{Items, no_items, item, Members, no_members, member}
 
 -- ---- the tree of a value
 

@@ -1,7 +1,8 @@
 -- The numbers of a token's faults (this project's own).
 use Rattle.std.specs.Prelude.{ℕ, Option, Some, None}
 use Rattle.passport_json.specs.declared.fault.TokenFault.{TokenFault}
-use Rattle.passport_json.specs.declared.fault.TokenFault.TheVariants.{Parts, Base64, Json, SignatureLength, Compact, Memory}
+use Rattle.passport_json.specs.declared.fault.TokenFault.TheVariants.{Parts, Base64, Json, SignatureLength, Compact}
+use Rattle.passport_json.specs.declared.fault.TokenFault.TheVariants.{Memory}
 
 -- 1 to 5, in the order of the faults' names; out of memory has none
 abbrev pub fault_number : TokenFault → Option ℕ

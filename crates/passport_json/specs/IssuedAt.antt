@@ -13,4 +13,5 @@ abbrev pub not_past : ℕ → Option ℕ
 not_past seconds = if nat_le seconds last_second then Some seconds else None
 
 abbrev pub issued_at : Data → Option ℕ
-issued_at payload = option_and_then not_past (option_and_then as_u64 (option_and_then as_number (get (codes "iat") payload)))
+issued_at payload =
+    option_and_then not_past (option_and_then as_u64 (option_and_then as_number (get (codes "iat") payload)))

@@ -1,4 +1,5 @@
--- The JSON object that bytes are, by `serde_json` (RFC 7515, section 5.2: header and payload are UTF-8 texts of objects).
+-- The JSON object that bytes are, by `serde_json` (RFC 7515, section 5.2: header and payload are UTF-8 texts of
+-- objects).
 use Rattle.std.specs.Prelude.{◌≡◌, ℕ, Bool, List, Option, Some, None, is_some, option_and_then, IsUtf8, if◌then◌else◌}
 use Rattle.std.specs.Str.{is_utf8}
 use Rattle.serde_json.specs.Data.{Data, null, boolean, number, string, array, object, Members}

@@ -1,7 +1,8 @@
 -- The deterministic header and payload of a PASSporT (RFC 8225, sections 4, 5 and 9; RFC 8588, section 4; RFC 8946,
 -- section 4.1): which members they have, in byte order of their names.
 use Rattle.std.specs.Prelude.{ℕ, List, [], ◌∷◌, Option, Some, None, codes}
-use Rattle.serde_json.specs.Data.{Data, number, string, array, object, unsigned, Items, no_items, item, Members, no_members, member}
+use Rattle.serde_json.specs.Data.{Data, number, string, array, object, unsigned, Items, no_items, item, Members}
+use Rattle.serde_json.specs.Data.{no_members, member}
 
 -- what a PASSporT claims: its type if it has one, the certificate's URI, the attestation and the call's identifier
 -- (`shaken`), the called numbers, the number that was diverted (`div`), when it was issued in Unix seconds, and the

@@ -1,5 +1,6 @@
--- Why a text is no token for a call: the checks in their order, each in the words of the serialization (RFC 7515, section 7.1), of base64url
--- (RFC 4648, section 5) and of the compact form (RFC 8225, section 7). The faults and their order are this project's own.
+-- Why a text is no token for a call: the checks in their order, each in the words of the serialization (RFC 7515,
+-- section 7.1), of base64url (RFC 4648, section 5) and of the compact form (RFC 8225, section 7). The faults and their
+-- order are this project's own.
 use Rattle.std.specs.Prelude.{◌≡◌, ◌≢◌, ◌⊎◌, ℕ, List, [], length, Some, None}
 use Rattle.serde_json.specs.Data.{Data}
 use Rattle.passport_json.specs.declared.fault.TokenFault.{TokenFault}
@@ -23,7 +24,8 @@ IsNoBase64 text = (bytes : List ℕ) → IsBase64 text bytes → ⊥
 abbrev pub IsNoObject : List ℕ → Type 0
 IsNoObject bytes = (value : Data) → IsObjectText bytes value → ⊥
 
--- a call lacks what the compact form leaves out: a Date or one of the numbers; or its PASSporT has a type, which that form has no place for
+-- a call lacks what the compact form leaves out: a Date or one of the numbers; or its PASSporT has a type, which that
+-- form has no place for
 pub data Lacks (call : CallView) : Type 0 where
   date : call.iat ≡ None → Lacks call
   calling : call.orig ≡ None → Lacks call
@@ -62,21 +64,24 @@ pub record IsSized (text : List ℕ) (parts bytes : PartTexts) : Type 0 where
 pub data Refused (text : List ℕ) (call : CallView) (fault : TokenFault) : Type 0 where
   -- Parts: not three texts with a dot between each two, or one of the first two empty and the other not
   dots : ((parts : PartTexts) → AreParts text parts → ⊥) → fault ≡ faults.Parts → Refused text call fault
-  one_empty : (parts : PartTexts) → AreParts text parts → IsOneEmpty parts.header parts.payload → fault ≡ faults.Parts → Refused text call fault
+  one_empty : (parts : PartTexts) → AreParts text parts → IsOneEmpty parts.header parts.payload → fault ≡ faults.Parts
+      → Refused text call fault
   -- Base64: the first of the three that is no base64url
-  header_base64 : (parts : PartTexts) → IsSerialized text parts → IsNoBase64 parts.header → fault ≡ faults.Base64 1 → Refused text call fault
-  payload_base64 : (parts : PartTexts) (header : List ℕ) → IsSerialized text parts → IsBase64 parts.header header → IsNoBase64 parts.payload
-      → fault ≡ faults.Base64 2 → Refused text call fault
-  signature_base64 : (parts : PartTexts) (header payload : List ℕ) → IsSerialized text parts → IsBase64 parts.header header
-      → IsBase64 parts.payload payload → IsNoBase64 parts.signature → fault ≡ faults.Base64 3 → Refused text call fault
+  header_base64 : (parts : PartTexts) → IsSerialized text parts → IsNoBase64 parts.header → fault ≡ faults.Base64 1
+      → Refused text call fault
+  payload_base64 : (parts : PartTexts) (header : List ℕ) → IsSerialized text parts → IsBase64 parts.header header
+      → IsNoBase64 parts.payload → fault ≡ faults.Base64 2 → Refused text call fault
+  signature_base64 : (parts : PartTexts) (header payload : List ℕ) → IsSerialized text parts
+      → IsBase64 parts.header header → IsBase64 parts.payload payload → IsNoBase64 parts.signature
+      → fault ≡ faults.Base64 3 → Refused text call fault
   -- SignatureLength: all three are, and the signature isn't 64 bytes
-  signature_length : (parts bytes : PartTexts) → IsDecoded text parts bytes → length bytes.signature ≢ 64 → fault ≡ faults.SignatureLength
-      → Refused text call fault
+  signature_length : (parts bytes : PartTexts) → IsDecoded text parts bytes → length bytes.signature ≢ 64
+      → fault ≡ faults.SignatureLength → Refused text call fault
   -- Json: in the full form, the first of header and payload that is no object
-  header_object : (parts bytes : PartTexts) → IsSized text parts bytes → HasBoth parts → IsNoObject bytes.header → fault ≡ faults.Json 1
-      → Refused text call fault
-  payload_object : (parts bytes : PartTexts) (header : Data) → IsSized text parts bytes → HasBoth parts → IsObjectText bytes.header header
-      → IsNoObject bytes.payload → fault ≡ faults.Json 2 → Refused text call fault
+  header_object : (parts bytes : PartTexts) → IsSized text parts bytes → HasBoth parts → IsNoObject bytes.header
+      → fault ≡ faults.Json 1 → Refused text call fault
+  payload_object : (parts bytes : PartTexts) (header : Data) → IsSized text parts bytes → HasBoth parts
+      → IsObjectText bytes.header header → IsNoObject bytes.payload → fault ≡ faults.Json 2 → Refused text call fault
   -- Compact: in the compact form, the call doesn't give what this leaves out
-  compact : (parts bytes : PartTexts) → IsSized text parts bytes → HasNeither parts → Lacks call → fault ≡ faults.Compact
-      → Refused text call fault
+  compact : (parts bytes : PartTexts) → IsSized text parts bytes → HasNeither parts → Lacks call
+      → fault ≡ faults.Compact → Refused text call fault

@@ -11,7 +11,8 @@ abbrev pub texts_of : Parts → PartTexts
 texts_of parts = record { header = parts.header.now; payload = parts.payload.now; signature = parts.signature.now }
 
 abbrev pub call_of : View → CallView
-call_of view = record { iat = view.iat; orig = view.orig; dest = view.dest; info = view.info.now; ppt = option_copied view.ppt }
+call_of view =
+    record { iat = view.iat; orig = view.orig; dest = view.dest; info = view.info.now; ppt = option_copied view.ppt }
 
 abbrev pub passport_of : Base → PassportView
 passport_of base = base_passport base.iat base.orig base.dest base.info.now

@@ -12,9 +12,11 @@ use Rattle.passport_json.specs.Parts.{dot}
 
 -- the JSON object whose base64url comes after the first dot
 unfoldable pub payload_in : List ℕ → Option Data
-payload_in signing = option_and_then (λ (parts : List ℕ × List ℕ). option_and_then object_of (result_ok (decode_of url_safe_no_pad parts.1))) (cut dot signing)
+payload_in signing = option_and_then (λ (parts : List ℕ × List ℕ).
+    option_and_then object_of (result_ok (decode_of url_safe_no_pad parts.1))) (cut dot signing)
 
--- What a call gives for the compact form can be written and read again: a moment of 64 bits, and telephone numbers, as far as they are given.
+-- What a call gives for the compact form can be written and read again: a moment of 64 bits, and telephone numbers, as
+-- far as they are given.
 pub record GivesNumbers (call : CallView) : Type 0 where
   pub moment : IfSome call.iat (λ seconds. seconds < 2 ^ 64)
   pub calling : IfSome call.orig (λ number. is_number number ≡ true)

@@ -1,4 +1,5 @@
--- A token as it is written (RFC 8225, sections 3 and 7; RFC 7515, section 7.1), in its two forms, and the symbols in which it is.
+-- A token as it is written (RFC 8225, sections 3 and 7; RFC 7515, section 7.1), in its two forms, and the symbols in
+-- which it is.
 use Rattle.std.specs.Prelude.{◌≡◌, ℕ, Bool, ◌==◌, ◌||◌, false, List, ◌∷◌, ◌++◌, length}
 use Rattle.base64.specs.Engines.{url_safe_no_pad}
 use Rattle.base64.specs.GeneralPurpose.{IsBytes, encode_of}

@@ -1,6 +1,7 @@
--- The text of a PASSporT (RFC 8225, sections 3 and 7; RFC 7515, section 7.1; RFC 4648, section 5 without padding): in its
--- full form header, payload and signature in base64url, with dots between; in its compact form the signature alone.
-use Rattle.std.specs.Prelude.{◌≡◌, ◌≢◌, ◌⊎◌, ℕ, ◌==◌, false, List, [], length, Option, Some, None, Result, Ok, Err, codes, if◌then◌else◌}
+-- The text of a PASSporT (RFC 8225, sections 3 and 7; RFC 7515, section 7.1; RFC 4648, section 5 without padding): in
+-- its full form header, payload and signature in base64url, with dots between; in its compact form the signature alone.
+use Rattle.std.specs.Prelude.{◌≡◌, ◌≢◌, ◌⊎◌, ℕ, ◌==◌, false, List, [], length, Option, Some, None, Result, Ok, Err}
+use Rattle.std.specs.Prelude.{codes, if◌then◌else◌}
 use Rattle.std.specs.Bool.{nat_eq}
 use Rattle.std.specs.List.{starts_with}
 use Rattle.base64.specs.declared.decode.DecodeError.{DecodeError}

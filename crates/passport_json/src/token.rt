@@ -26,8 +26,8 @@ use std::marker::Model;
 use text_grammar::LAST_SECOND;
 
 /// A PASSporT (RFC 8225, section 3): header and payload as JSON objects, the text that was signed, the 64 bytes of the
-/// signature, and whether it came in its compact form (section 7). In contracts it is the record of these five, of which
-/// header and payload are objects.
+/// signature, and whether it came in its compact form (section 7). In contracts it is the record of these five, of
+/// which header and payload are objects.
 #[derive(Debug, Drop)]
 pub struct Token {
     header: Value,

@@ -2,7 +2,8 @@ ghost use Rattle.std.specs.Prelude.{◌≡◌, ◌↔◌, Some, IfOk, IsTrue, Is
 ghost use Rattle.base64.specs.GeneralPurpose.{IsBytes};
 ghost use Rattle.serde_json.specs.Read.{read};
 ghost use Rattle.serde_json.specs.View.{view, items_view, members_view};
-ghost use Rattle.passport_json.specs.Deterministic.{Det, IsInOrder, IsWritable, is_plain, are_plain_items, are_plain_members};
+ghost use Rattle.passport_json.specs.Deterministic.{Det, IsInOrder, IsWritable, is_plain, are_plain_items};
+ghost use Rattle.passport_json.specs.Deterministic.{are_plain_members};
 
 use serde_json::{Map, Value};
 use std::alloc::{AllocError, Global};

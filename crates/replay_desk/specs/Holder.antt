@@ -31,7 +31,12 @@ right_of h = record { desk = h.desk; wins = []; losses = []; share = h.share / 2
 
 -- the wins, the losses and the share of both
 abbrev pub both_of : Holder → Holder → Holder
-both_of h other = record { desk = h.desk; wins = h.wins ++ other.wins; losses = h.losses ++ other.losses; share = h.share + other.share }
+both_of h other = record {
+  desk = h.desk;
+  wins = h.wins ++ other.wins;
+  losses = h.losses ++ other.losses;
+  share = h.share + other.share;
+}
 
 -- a win more
 abbrev pub gained : ℕ → ℕ → Holder → Holder

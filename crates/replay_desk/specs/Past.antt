@@ -1,5 +1,5 @@
--- The past: which call passed on which ticket, for as long as its PASSporT is fresh (this project's own rule). It is a finite map
--- from tickets to calls, and `found` is what it has at a ticket.
+-- The past: which call passed on which ticket, for as long as its PASSporT is fresh (this project's own rule). It is a
+-- finite map from tickets to calls, and `found` is what it has at a ticket.
 use Rattle.std.specs.Prelude.{ℕ, nat_le, nat_lt, List, Option, Some, None, if◌then◌else◌, filter}
 use Rattle.std.specs.Map.{lookup}
 use Rattle.std.specs.Str.{bytes_eq}

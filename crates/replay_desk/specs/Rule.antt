@@ -1,5 +1,5 @@
--- The rule of a desk, between any two steps (this project's own rule). A desk has a word for each class. A seat's view has its
--- wins and its losses, and its share of the desk.
+-- The rule of a desk, between any two steps (this project's own rule). A desk has a word for each class. A seat's view
+-- has its wins and its losses, and its share of the desk.
 use Rattle.std.specs.Prelude.{◌≡◌, ℕ, ◌+◌, ◌<◌, List, [], length, slice_index}
 use mathlib.Core.Option.{some}
 use lib.ListN.{get_elem?}
@@ -23,7 +23,8 @@ pub record Holds {S : Type 0} (classes : ℕ) (s : State S View) : Type 0 where
   -- each loss equals the present word
   pub losses : (id : ℕ) (v : View) → get_elem? s.views id ≡ some v → Stand s.words v.losses
   -- a nonzero word is in the wins of exactly one view, once
-  pub one_winner : (class : ℕ) → total (λ (v : View). count (of_class class) v.wins) s.views ≡ setters (slice_index s.words class)
+  pub one_winner : (class : ℕ)
+      → total (λ (v : View). count (of_class class) v.wins) s.views ≡ setters (slice_index s.words class)
   -- shares add up to 1
   pub shares : total (λ (v : View). v.share) s.views ≡ whole
   -- what has no share has no wins and no losses

@@ -38,7 +38,8 @@ pub record Known (wins losses : List (ℕ × ℕ)) (share : ℕ) : Type 0 where
   -- no class was won twice
   pub once : (class : ℕ) → count (of_class class) wins ≤ 1
   -- of one class, all wins and losses name one call
-  pub agree : (class one other : ℕ) → In (class, one) wins ⊎ In (class, one) losses → In (class, other) wins ⊎ In (class, other) losses → one ≡ other
+  pub agree : (class one other : ℕ) → In (class, one) wins ⊎ In (class, one) losses
+      → In (class, other) wins ⊎ In (class, other) losses → one ≡ other
   -- a seat of share 1 has all wins, so each of its losses names one of them
   pub named : share ≡ whole → (p : ℕ × ℕ) → In p losses → In p wins
   -- the share is above 0

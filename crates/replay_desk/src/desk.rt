@@ -25,12 +25,13 @@ impl Model for Desk {
 
     ghost view = { λ desk. desk.table.shared.table_id };
 
-    ghost invariant = { λ desk. (0 < desk.table.shared.table_id.words) × (desk.table.shared.table_id.words < 4294967296) × (desk.table.shared.key ≡ desk.table.shared.table_id.words) };
+    ghost invariant = { λ desk. (0 < desk.table.shared.table_id.words) × (desk.table.shared.table_id.words < 4294967296)
+        × (desk.table.shared.key ≡ desk.table.shared.table_id.words) };
 }
 
-/// The right to claim on one desk, with the wins and losses of all claims that were made with it, and a share of the desk.
-/// It has no bytes, and may go to another thread. A seat that is dropped takes its share with it, so that no other has the
-/// whole share again.
+/// The right to claim on one desk, with the wins and losses of all claims that were made with it, and a share of the
+/// desk. It has no bytes, and may go to another thread. A seat that is dropped takes its share with it, so that no
+/// other has the whole share again.
 #[derive(Drop)]
 pub struct Seat {
     /// The right to step on the table, with the seat's view.
@@ -44,14 +45,20 @@ impl Model for Seat {
 
     ghost Value = { Holder };
 
-    ghost view = { λ seat. record { desk = seat.token.table_id; wins = seat.token.me.0.wins; losses = seat.token.me.0.losses; share = seat.token.me.0.share } };
+    ghost view = { λ seat. record {
+      desk = seat.token.table_id;
+      wins = seat.token.me.0.wins;
+      losses = seat.token.me.0.losses;
+      share = seat.token.me.0.share;
+    } };
 
-    ghost invariant = { λ seat. (seat.token.me.1 ≡ []) × Known seat.token.me.0.wins seat.token.me.0.losses seat.token.me.0.share };
+    ghost invariant = { λ seat. (seat.token.me.1 ≡ [])
+        × Known seat.token.me.0.wins seat.token.me.0.losses seat.token.me.0.share };
 }
 
 impl Desk {
-    /// A desk with so many classes, none of which is won, and its first seat, which has the whole share. The only error is
-    /// that memory runs out.
+    /// A desk with so many classes, none of which is won, and its first seat, which has the whole share. The only error
+    /// is that memory runs out.
     pub fn new(alloc: Global, classes: u32) -> Result<(Desk, Seat), AllocError>
         requires { 1 ≤ classes }
         ensures { IfOk result (λ made. (made.0.words ≡ classes) × (made.1 ≡ first_of made.0)) }
@@ -68,8 +75,8 @@ impl Desk {
         self.table.word_count() as u32
     }
 
-    /// A new seat, without wins and losses, to which the caller's gives half of its share. It takes no memory, and always
-    /// answers Ok.
+    /// A new seat, without wins and losses, to which the caller's gives half of its share. It takes no memory, and
+    /// always answers Ok.
     pub fn split(&self, seat: &mut Seat) -> Result<Seat, AllocError>
         requires desk { seat.old.desk ≡ self.now }
         requires share { 2 ≤ seat.old.share }
@@ -95,8 +102,8 @@ impl Desk {
         self.table.shared.load::<Look>(&mut seat.token, 0);
     }
 
-    /// Claims a class for a call. Won exactly if the class's word is 0 at this step; otherwise Lost, to the call that the word
-    /// names. It takes no memory and waits for nobody.
+    /// Claims a class for a call. Won exactly if the class's word is 0 at this step; otherwise Lost, to the call that
+    /// the word names. It takes no memory and waits for nobody.
     pub fn claim(&self, seat: &mut Seat, class: u32, call: u32) -> Claim
         requires desk { seat.old.desk ≡ self.now }
         requires class { class < self.now.words }
@@ -114,8 +121,8 @@ impl Desk {
         }
     }
 
-    /// Gives up the desk with a seat that has the whole share, which it has once all others were joined. Then each loss of the
-    /// seat names one of its wins.
+    /// Gives up the desk with a seat that has the whole share, which it has once all others were joined. Then each loss
+    /// of the seat names one of its wins.
     pub fn close(self, seat: Seat)
         requires desk { seat.desk ≡ self }
         requires share { seat.share ≡ whole }

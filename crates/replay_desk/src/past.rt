@@ -59,8 +59,9 @@ impl Past {
         self.spare
     }
 
-    /// Makes room for so many tickets more. If there isn't, it takes out the calls that were dropped, and makes room for as many as are left, so that
-    /// this is done seldom. The only error is that memory runs out, and changes nothing.
+    /// Makes room for so many tickets more. If there isn't, it takes out the calls that were dropped, and makes room
+    /// for as many as are left, so that this is done seldom. The only error is that memory runs out, and changes
+    /// nothing.
     pub fn reserve(&mut self, count: usize) -> Result<(), AllocError>
         ensures same { (ticket : List ℕ) → found self.new ticket ≡ found self.old ticket }
         ensures room { OnOk result (count ≤ self.new.spare) }
@@ -100,8 +101,8 @@ impl Past {
         unless_below(self.moment, self.calls.get(ticket).copied())
     }
 
-    /// Drops exactly the calls whose PASSporT is fresh no longer: those whose last second is below the moment, a Unix time. It
-    /// takes no memory.
+    /// Drops exactly the calls whose PASSporT is fresh no longer: those whose last second is below the moment, a Unix
+    /// time. It takes no memory.
     pub fn purge(&mut self, moment: u64)
         ensures calls { (ticket : List ℕ) → found self.new ticket ≡ unless_below moment (found self.old ticket) }
         ensures spare { self.old.spare ≤ self.new.spare }
@@ -112,7 +113,8 @@ impl Past {
 
     /// All tickets with their calls, in rising order of tickets. The only error is that memory runs out.
     pub fn list(&self) -> Result<Vec<([u8; 32], Kept)>, AllocError>
-        ensures same { IfOk result (λ list. (ticket : List ℕ) → lookup (bytes_eq ticket) list.items ≡ found self.now ticket) }
+        ensures same { IfOk result (λ list. (ticket : List ℕ)
+            → lookup (bytes_eq ticket) list.items ≡ found self.now ticket) }
         ensures rises { IfOk result (λ list. Rises None list.items) }
     {
         let list = listed(self.alloc, &self.calls, self.moment)?;
@@ -136,7 +138,8 @@ fn take_out(calls: &mut HashMap<[u8; 32], Kept>, moment: u64)
     calls.retain(|_, kept| kept.last >= moment);
 }
 
-/// A moment that isn't after this second, with the same calls from it on. That is the moment itself, or else the others are taken out.
+/// A moment that isn't after this second, with the same calls from it on. That is the moment itself, or else the others
+/// are taken out.
 fn lowered(calls: &mut HashMap<[u8; 32], Kept>, moment: u64, last: u64) -> u64
     ensures low { result ≤ last }
     ensures same { kept_from result calls.new.entries ≡ kept_from moment calls.old.entries }

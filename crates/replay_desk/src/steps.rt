@@ -1,6 +1,6 @@
-//! The rule of a desk, and the kinds of step on it. A desk is made with all words 0. A split and a join load word 0, and
-//! change the views of two seats; a join loads it once more, for a look that changes nothing. A claim exchanges the word of
-//! its class if it is 0, and else finds it. No step changes a word that isn't 0.
+//! The rule of a desk, and the kinds of step on it. A desk is made with all words 0. A split and a join load word 0,
+//! and change the views of two seats; a join loads it once more, for a look that changes nothing. A claim exchanges the
+//! word of its class if it is 0, and else finds it. No step changes a word that isn't 0.
 ghost use Rattle.replay_desk.specs.Rule.{Holds};
 ghost use Rattle.replay_desk.specs.Steps.{Claims, Looks, both, first_view, left_part, right_part, spent_view};
 

@@ -77,7 +77,8 @@ fn the_past_keeps_a_call_up_to_its_last_second(rt: HostRuntime) -> Result<(), Fa
     Ok(())
 }
 
-/// A ticket that was dropped is added again, up to a second below the last purge: it is held up to that second, and the call before it no longer.
+/// A ticket that was dropped is added again, up to a second below the last purge: it is held up to that second, and the
+/// call before it no longer.
 #[test]
 fn what_was_dropped_can_be_added_again(rt: HostRuntime) -> Result<(), Fail> {
     let ticket = [7u8; 32];

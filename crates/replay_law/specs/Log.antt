@@ -22,16 +22,19 @@ pub record LogWinner (rounds : List Round) (ticket : List ℕ) : Type 0 where
   pub stands : StandsIn rounds round place winner
   pub uses : Uses ticket winner
   pub wins : winner.answer ≡ valid
-  pub first : (other_round other : ℕ) (row : Row) → StandsIn rounds other_round other row → Uses ticket row → round ≤ other_round
+  pub first : (other_round other : ℕ) (row : Row) → StandsIn rounds other_round other row
+      → Uses ticket row → round ≤ other_round
   pub others : (other_round other : ℕ) (row : Row) → StandsIn rounds other_round other row → Uses ticket row
       → (other_round ≡ round → other ≢ place) → row.answer ≡ replay winner.number
 
 -- The answers are legal, as far as the single use of tickets goes.
 pub record RowsLegal (rounds : List Round) : Type 0 where
   -- a call that doesn't pass is neither valid nor a replay
-  pub refused : (round place : ℕ) (row : Row) → StandsIn rounds round place row → row.passes ≡ false → row.answer ≡ neither
+  pub refused : (round place : ℕ) (row : Row) → StandsIn rounds round place row
+      → row.passes ≡ false → row.answer ≡ neither
   -- a ticket with which some call passes has one valid call
-  pub once : (round place : ℕ) (row : Row) → StandsIn rounds round place row → row.passes ≡ true → LogWinner rounds row.ticket
+  pub once : (round place : ℕ) (row : Row) → StandsIn rounds round place row → row.passes ≡ true
+      → LogWinner rounds row.ticket
 
 -- one place of the log comes before another
 abbrev pub IsBefore : ℕ → ℕ → ℕ → ℕ → Type 0
@@ -41,4 +44,5 @@ IsBefore round place other_round other = (round < other_round) ⊎ ((round ≡ o
 pub record NamesOne (rounds : List Round) (ticket : List ℕ) (number : ℕ) : Type 0 where
   pub valid_call : LogWinner rounds ticket
   pub names : valid_call.winner.number ≡ number
-  pub alone : (round place : ℕ) (row : Row) → StandsIn rounds round place row → row.number ≡ number → row ≡ valid_call.winner
+  pub alone : (round place : ℕ) (row : Row) → StandsIn rounds round place row → row.number ≡ number
+      → row ≡ valid_call.winner

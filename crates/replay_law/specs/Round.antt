@@ -10,24 +10,27 @@ pub record Winner (rows : List Row) (ticket : List ℕ) : Type 0 where
   pub stands : Stands rows place winner
   pub uses : Uses ticket winner
   pub wins : winner.answer ≡ valid
-  pub others : (other : ℕ) (row : Row) → Stands rows other row → Uses ticket row → other ≢ place → row.answer ≡ replay winner.number
+  pub others : (other : ℕ) (row : Row) → Stands rows other row → Uses ticket row → other ≢ place
+      → row.answer ≡ replay winner.number
 
 -- The calls of a round are answered over what is held, and `next` is held after them.
 pub record Settled (held : Held) (rows : List Row) (next : Held) : Type 0 where
   -- a call that doesn't pass is neither valid nor a replay
   pub refused : (place : ℕ) (row : Row) → Stands rows place row → row.passes ≡ false → row.answer ≡ neither
   -- a call that passes with a ticket that is held is a replay of the call that it is kept for
-  pub replays : (place : ℕ) (row : Row) (kept : Kept) → Stands rows place row → row.passes ≡ true → held row.ticket ≡ Some kept
-      → row.answer ≡ replay kept.call
+  pub replays : (place : ℕ) (row : Row) (kept : Kept) → Stands rows place row → row.passes ≡ true
+      → held row.ticket ≡ Some kept → row.answer ≡ replay kept.call
   -- of those that pass with any other ticket exactly one is valid, and each other is a replay of it
-  pub winners : (place : ℕ) (row : Row) → Stands rows place row → row.passes ≡ true → held row.ticket ≡ None → Winner rows row.ticket
+  pub winners : (place : ℕ) (row : Row) → Stands rows place row → row.passes ≡ true → held row.ticket ≡ None
+      → Winner rows row.ticket
   -- what was held stays,
   pub stays : (ticket : List ℕ) (kept : Kept) → held ticket ≡ Some kept → next ticket ≡ Some kept
   -- each valid call is kept for its ticket,
-  pub gains : (place : ℕ) (row : Row) → Stands rows place row → row.answer ≡ valid → next row.ticket ≡ Some (kept_of row)
+  pub gains : (place : ℕ) (row : Row) → Stands rows place row → row.answer ≡ valid
+      → next row.ticket ≡ Some (kept_of row)
   -- and nothing else is held
-  pub no_more : (ticket : List ℕ) → held ticket ≡ None
-      → ((place : ℕ) (row : Row) → Stands rows place row → row.ticket ≡ ticket → row.answer ≢ valid) → next ticket ≡ None
+  pub no_more : (ticket : List ℕ) → held ticket ≡ None → ((place : ℕ) (row : Row) → Stands rows place row
+      → row.ticket ≡ ticket → row.answer ≢ valid) → next ticket ≡ None
 
 -- The calls of a round, and the moment by which the past is purged before them.
 pub record Round : Type 0 where
@@ -43,8 +46,8 @@ first_moment (row ∷ rows) = row.moment
 abbrev pub round_of : List Row → Round
 round_of rows = record { moment = first_moment rows; rows = rows }
 
--- a round without calls, which only purges: so if memory ran out for its calls, and when one run hands its past on to the
--- next
+-- a round without calls, which only purges: so if memory ran out for its calls, and when one run hands its past on to
+-- the next
 abbrev pub purge_at : ℕ → Round
 purge_at moment = record { moment = moment; rows = [] }
 

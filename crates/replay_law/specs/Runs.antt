@@ -18,9 +18,11 @@ rounds_in (run ∷ others) = run.rounds ++ purge_at run.moment ∷ rounds_in oth
 -- the rounds of each run are settled in turn, over what the run before it handed on
 abbrev pub HandOn : Held → List Run → Held → Type 0
 HandOn past [] next = Same past next
-HandOn past (run ∷ others) next = (left : Held) × (handed : Held) × Rounds past run.rounds left × Same (purged run.moment left) handed × HandOn handed others next
+HandOn past (run ∷ others) next = (left : Held) × (handed : Held) × Rounds past run.rounds left
+    × Same (purged run.moment left) handed × HandOn handed others next
 
--- Runs that hand their past on, the first from an empty one, are legal together. So handing on lets no ticket pass twice.
+-- Runs that hand their past on, the first from an empty one, are legal together. So handing on lets no ticket pass
+-- twice.
 abbrev pub LegalInRuns : Type 0
-LegalInRuns = (runs : List Run) (next : Held) → HandOn nothing runs next → IsFresh (rounds_in runs) → NeverFalls (rounds_in runs) → IsApart (rounds_in runs)
-    → RowsLegal (rounds_in runs)
+LegalInRuns = (runs : List Run) (next : Held) → HandOn nothing runs next → IsFresh (rounds_in runs)
+    → NeverFalls (rounds_in runs) → IsApart (rounds_in runs) → RowsLegal (rounds_in runs)

@@ -16,7 +16,8 @@ pub record Turn (held : Held) (row : Row) (next : Held) : Type 0 where
   -- a call that doesn't pass is neither valid nor a replay, and changes nothing
   pub refused : row.passes ≡ false → (row.answer ≡ neither) × Same held next
   -- one that passes with a ticket that is held is a replay, and changes nothing
-  pub replays : (kept : Kept) → row.passes ≡ true → held row.ticket ≡ Some kept → (row.answer ≡ replay kept.call) × Same held next
+  pub replays : (kept : Kept) → row.passes ≡ true → held row.ticket ≡ Some kept
+      → (row.answer ≡ replay kept.call) × Same held next
   -- any other is valid, and is kept
   pub wins : row.passes ≡ true → held row.ticket ≡ None → (row.answer ≡ valid) × Adds held row next
 
@@ -36,5 +37,6 @@ EachFirstWins rounds = (place : ℕ) (round : Round) → slice_get rounds place 
 
 -- a valid call of a log is the first of all that pass with its ticket
 abbrev pub FirstOfLogWins : List Round → Type 0
-FirstOfLogWins rounds = (round place other_round other : ℕ) (winner row : Row) → StandsIn rounds round place winner → winner.answer ≡ valid
-    → StandsIn rounds other_round other row → Uses winner.ticket row → IsBefore other_round other round place → ⊥
+FirstOfLogWins rounds = (round place other_round other : ℕ) (winner row : Row) → StandsIn rounds round place winner
+    → winner.answer ≡ valid → StandsIn rounds other_round other row → Uses winner.ticket row
+    → IsBefore other_round other round place → ⊥

@@ -1,5 +1,5 @@
--- What the gateway answers. Out of memory may come in any case, and so may a failure of the provider, which has its own cause. A verdict has
--- its own clauses.
+-- What the gateway answers. Out of memory may come in any case, and so may a failure of the provider, which has its own
+-- cause. A verdict has its own clauses.
 use Rattle.std.specs.Prelude.{ℕ, Bool, true, false, Option, Some, None, Result, Ok, Err}
 use Rattle.auth_service.specs.declared.fault.SignFault.{SignFault}
 use Rattle.auth_service.specs.declared.fault.SignFault.TheVariants as signing

@@ -7,7 +7,8 @@ use Rattle.retarget.specs.declared.fault.HopFault.{HopFault}
 use Rattle.retarget.specs.declared.fault.HopFault.TheVariants as faults
 
 -- it was asked at most once, and counted the failure that is answered, at signing
-pub record IsAskedOnce {P X : Type 0} (provider : ProviderOf P) (before now : P) (result : Result X HopFault) : Type 0 where
+pub record IsAskedOnce {P X : Type 0} (provider : ProviderOf P) (before now : P)
+    (result : Result X HopFault) : Type 0 where
   pub failed : names_provider result ≡ true → Rose (provider.faults before) (provider.faults now)
   pub failed_signing : names_provider result ≡ true → Rose (provider.sign_faults before) (provider.sign_faults now)
   pub asks : provider.asks now ≤ provider.asks before + 1
@@ -23,7 +24,8 @@ pub record IsUnasked {X : Type 0} (judged before now : ℕ) (result : Result X H
   pub asks : now ≤ before + judged
   pub unnamed : names_provider result ≡ false
 
--- of a call that doesn't pass it was asked about this many PASSporTs at most, and not to sign: questions of both kinds have one count
+-- of a call that doesn't pass it was asked about this many PASSporTs at most, and not to sign: questions of both kinds
+-- have one count
 abbrev pub AsksNoMore : ℕ → ℕ → ℕ → HopFault → Type 0
 AsksNoMore judged before now (faults.Verdict verdict) = now ≤ before + judged
 AsksNoMore judged before now faults.Target = ⊤

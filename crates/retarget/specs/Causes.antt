@@ -1,5 +1,5 @@
--- Why a call that passed doesn't go on, in the words of the message, the call, the hop, the holder and the provider (this project's own faults). Each
--- says that those before it don't apply.
+-- Why a call that passed doesn't go on, in the words of the message, the call, the hop, the holder and the provider
+-- (this project's own faults). Each says that those before it don't apply.
 use Rattle.std.specs.Prelude.{◌≡◌, ⊤, ℕ, ◌<◌, List, length, Option, Some, None}
 use Rattle.sip_message.specs.Accessors.{calling_number}
 use Rattle.sip_message.specs.Added.{with_line}
@@ -37,7 +37,8 @@ pub record HasNoRoom (message : MessageView) (earlier : List ℕ) (readings : Li
   pub full : IsFull message readings
 
 -- the call goes on to this number, and this is the PASSporT that says so
-pub record IsToSign (message : MessageView) (earlier : List ℕ) (readings : List Reading) (hop : HopView) (claims : ClaimsView) : Type 0 where
+pub record IsToSign (message : MessageView) (earlier : List ℕ) (readings : List Reading) (hop : HopView)
+    (claims : ClaimsView) : Type 0 where
   pub number : List ℕ
   pub onward : GoesOnTo message earlier readings hop number
   pub orig : List ℕ
@@ -46,28 +47,32 @@ pub record IsToSign (message : MessageView) (earlier : List ℕ) (readings : Lis
 
 -- with this signature what goes on is longer than a message may be
 abbrev pub IsTooLong : List ℕ → List ℕ → HopView → ClaimsView → List ℕ → Type 0
-IsTooLong bytes earlier hop claims signature =
-    65535 < length (with_line (with_uri bytes hop.target) field_name (value_of (diversion hop earlier).shape claims signature))
+IsTooLong bytes earlier hop claims signature = 65535 < length (with_line (with_uri bytes hop.target) field_name
+    (value_of (diversion hop earlier).shape claims signature))
 
 -- 24: and so it is with each
-pub record IsLong (bytes : List ℕ) (message : MessageView) (earlier : List ℕ) (readings : List Reading) (hop : HopView) : Type 0 where
+pub record IsLong (bytes : List ℕ) (message : MessageView) (earlier : List ℕ) (readings : List Reading)
+    (hop : HopView) : Type 0 where
   pub claims : ClaimsView
   pub to_sign : IsToSign message earlier readings hop claims
   pub long : (signature : List ℕ) → IsSignature signature → IsTooLong bytes earlier hop claims signature
 
 -- it is so with none
 abbrev pub HasRoom : List ℕ → List ℕ → HopView → ClaimsView → Type 0
-HasRoom bytes earlier hop claims = (signature : List ℕ) → IsSignature signature → IsTooLong bytes earlier hop claims signature → ⊥
+HasRoom bytes earlier hop claims = (signature : List ℕ) → IsSignature signature
+    → IsTooLong bytes earlier hop claims signature → ⊥
 
 -- 25: the holder's list doesn't cover the number that was called before
-pub record IsUnauthorized (bytes : List ℕ) (message : MessageView) (earlier : List ℕ) (readings : List Reading) (hop : HopView) (holder : HolderView) : Type 0 where
+pub record IsUnauthorized (bytes : List ℕ) (message : MessageView) (earlier : List ℕ) (readings : List Reading)
+    (hop : HopView) (holder : HolderView) : Type 0 where
   pub claims : ClaimsView
   pub to_sign : IsToSign message earlier readings hop claims
   pub room : HasRoom bytes earlier hop claims
   pub lacks : Covers holder.entries holder.table earlier → ⊥
 
 -- 26: the key signs nothing for this digest, which is that of what is to be signed
-pub record IsUnsigned (bytes : List ℕ) (message : MessageView) (earlier : List ℕ) (readings : List Reading) (hop : HopView) (holder : HolderView) (signs : List ℕ → List ℕ → Option (List ℕ)) (digest : List ℕ) : Type 0 where
+pub record IsUnsigned (bytes : List ℕ) (message : MessageView) (earlier : List ℕ) (readings : List Reading)
+    (hop : HopView) (holder : HolderView) (signs : List ℕ → List ℕ → Option (List ℕ)) (digest : List ℕ) : Type 0 where
   pub claims : ClaimsView
   pub to_sign : IsToSign message earlier readings hop claims
   pub room : HasRoom bytes earlier hop claims
@@ -76,21 +81,26 @@ pub record IsUnsigned (bytes : List ℕ) (message : MessageView) (earlier : List
   pub none : ◌≡◌ {A = Option (List ℕ)} (signs hop.key digest) None
 
 -- nothing may be signed, whatever the provider does: one of the faults 21 to 25 is there
-pub data IsWithheld (bytes : List ℕ) (message : MessageView) (earlier : List ℕ) (readings : List Reading) (hop : HopView) (holder : HolderView) : Type 0 where
+pub data IsWithheld (bytes : List ℕ) (message : MessageView) (earlier : List ℕ) (readings : List Reading)
+    (hop : HopView) (holder : HolderView) : Type 0 where
   nowhere : LeadsNowhere hop → IsWithheld bytes message earlier readings hop holder
   looped : IsLoop earlier readings hop → IsWithheld bytes message earlier readings hop holder
   full : HasNoRoom message earlier readings hop → IsWithheld bytes message earlier readings hop holder
   long : IsLong bytes message earlier readings hop → IsWithheld bytes message earlier readings hop holder
-  unauthorized : IsUnauthorized bytes message earlier readings hop holder → IsWithheld bytes message earlier readings hop holder
+  unauthorized : IsUnauthorized bytes message earlier readings hop holder
+      → IsWithheld bytes message earlier readings hop holder
 
 -- the cause of each; a verdict and a failure of the provider have their own clauses, and out of memory has none
-abbrev pub IsCaused : List ℕ → MessageView → List ℕ → List Reading → HopView → HolderView → (List ℕ → List ℕ → Option (List ℕ)) → HopFault → Type 0
+abbrev pub IsCaused : List ℕ → MessageView → List ℕ → List Reading → HopView → HolderView
+    → (List ℕ → List ℕ → Option (List ℕ)) → HopFault → Type 0
 IsCaused bytes message earlier readings hop holder signs (faults.Verdict verdict) = ⊤
 IsCaused bytes message earlier readings hop holder signs faults.Target = LeadsNowhere hop
 IsCaused bytes message earlier readings hop holder signs faults.Loop = IsLoop earlier readings hop
 IsCaused bytes message earlier readings hop holder signs faults.Full = HasNoRoom message earlier readings hop
 IsCaused bytes message earlier readings hop holder signs faults.Size = IsLong bytes message earlier readings hop
-IsCaused bytes message earlier readings hop holder signs faults.Authority = IsUnauthorized bytes message earlier readings hop holder
-IsCaused bytes message earlier readings hop holder signs (faults.NoSignature digest) = IsUnsigned bytes message earlier readings hop holder signs digest
+IsCaused bytes message earlier readings hop holder signs faults.Authority =
+    IsUnauthorized bytes message earlier readings hop holder
+IsCaused bytes message earlier readings hop holder signs (faults.NoSignature digest) =
+    IsUnsigned bytes message earlier readings hop holder signs digest
 IsCaused bytes message earlier readings hop holder signs faults.Provider = ⊤
 IsCaused bytes message earlier readings hop holder signs faults.Memory = ⊤

@@ -8,8 +8,8 @@ use Rattle.sip_message.specs.HeadAlphabet.{is_target}
 use Rattle.auth_service.specs.Order.{OrderView, shape_of_diversion}
 use Rattle.retarget.specs.declared.hop.Hop.{Hop}
 
--- the request URI of the message that goes on, the name of the key, the URI of its certificates, when it is signed in Unix seconds, and how numbers
--- are read
+-- the request URI of the message that goes on, the name of the key, the URI of its certificates, when it is signed in
+-- Unix seconds, and how numbers are read
 pub record HopView : Type 0 where
   pub target : List ℕ
   pub key : List ℕ
@@ -24,10 +24,12 @@ hop_of hop = record { target = hop.target.now; key = hop.key.now; x5u = hop.x5u.
 abbrev pub is_hop : HopView → Bool
 is_hop hop = is_uri hop.x5u && nat_le hop.iat last_second
 
--- the number of the target (RFC 3261, section 19.1.6; RFC 3966, section 3), if the target can be written in a start line
+-- the number of the target (RFC 3261, section 19.1.6; RFC 3966, section 3), if the target can be written in a start
+-- line
 abbrev pub next_number : HopView → Option (List ℕ)
 next_number hop = if is_target hop.target then uri_number hop.target hop.local else None
 
 -- what is signed: a diversion from the number that was called before
 abbrev pub diversion : HopView → List ℕ → OrderView
-diversion hop earlier = record { shape = shape_of_diversion earlier; key = hop.key; x5u = hop.x5u; iat = hop.iat; local = hop.local }
+diversion hop earlier =
+    record { shape = shape_of_diversion earlier; key = hop.key; x5u = hop.x5u; iat = hop.iat; local = hop.local }

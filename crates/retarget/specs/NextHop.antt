@@ -11,9 +11,10 @@ use Rattle.verify_rules.specs.declared.settings.Settings.{Settings}
 use Rattle.auth_service.specs.Order.{HolderView}
 use Rattle.retarget.specs.Hop.{HopView}
 
-pub record IsNextHop (out : List ℕ) (hop : HopView) (holder : HolderView) (says : Says) (readings : List Reading) (states : List State)
-    (settings : Settings) (world : World) (later : ℕ) : Type 0 where
-  -- the world numbers so, has this code table and this provider, and in it the chains of the call are those that were handed in
+pub record IsNextHop (out : List ℕ) (hop : HopView) (holder : HolderView) (says : Says) (readings : List Reading)
+    (states : List State) (settings : Settings) (world : World) (later : ℕ) : Type 0 where
+  -- the world numbers so, has this code table and this provider, and in it the chains of the call are those that were
+  -- handed in
   pub numbering : settings.local ≡ hop.local
   pub grants : world.table ≡ holder.table
   pub answers : world.says ≡ says
@@ -29,4 +30,5 @@ pub record IsNextHop (out : List ℕ) (hop : HopView) (holder : HolderView) (say
 -- what goes on breaks none of the rules of the call and the chains there
 abbrev pub BreaksNone : List ℕ → HopView → HolderView → Says → List Reading → List State → Type 0
 BreaksNone out hop holder says readings states = (settings : Settings) (world : World) (later : ℕ)
-    → IsNextHop out hop holder says readings states settings world later → First world (call_of settings later out) ≡ None
+    → IsNextHop out hop holder says readings states settings world later
+    → First world (call_of settings later out) ≡ None

@@ -1,5 +1,7 @@
--- Whether a call may go on to a number (RFC 8946, section 4.2; RFC 3261, section 16.3, item 4; the limits are this project's own).
-use Rattle.std.specs.Prelude.{◌≡◌, ◌⊎◌, ℕ, ◌≤◌, Bool, true, ◌||◌, nat_le, List, [], ◌∷◌, length, drop, Option, Some, None, Result, Ok, Err, if◌then◌else◌}
+-- Whether a call may go on to a number (RFC 8946, section 4.2; RFC 3261, section 16.3, item 4; the limits are this
+-- project's own).
+use Rattle.std.specs.Prelude.{◌≡◌, ◌⊎◌, ℕ, ◌≤◌, Bool, true, ◌||◌, nat_le, List, [], ◌∷◌, length, drop, Option, Some}
+use Rattle.std.specs.Prelude.{None, Result, Ok, Err, if◌then◌else◌}
 use Rattle.std.specs.List.{list_any, slice_get}
 use Rattle.std.specs.Str.{bytes_eq}
 use Rattle.sip_message.specs.Accessors.{identities}
@@ -26,13 +28,17 @@ is_at number link = bytes_eq (dest_of link.passport) number
 -- by its diversions, and if it has none by the number that is called
 abbrev pub has_been_at : List ℕ → List ℕ → List Reading → Bool
 has_been_at earlier number [] = bytes_eq earlier number
-has_been_at earlier number (first ∷ later) = bytes_eq (div_of first.passport) number || list_any (is_at number) (first ∷ later)
+has_been_at earlier number (first ∷ later) =
+    bytes_eq (div_of first.passport) number || list_any (is_at number) (first ∷ later)
 
--- in words: a call without diversions is at the number that is called; one with diversions has been where the first came from, and where each led
+-- in words: a call without diversions is at the number that is called; one with diversions has been where the first
+-- came from, and where each led
 pub data HasBeenAt (earlier number : List ℕ) (links : List Reading) : Type 0 where
   undiverted : links ≡ [] → earlier ≡ number → HasBeenAt earlier number links
-  start : (first : Reading) → slice_get links 0 ≡ Some first → div_of first.passport ≡ number → HasBeenAt earlier number links
-  led : (at : ℕ) (link : Reading) → slice_get links at ≡ Some link → dest_of link.passport ≡ number → HasBeenAt earlier number links
+  start : (first : Reading) → slice_get links 0 ≡ Some first → div_of first.passport ≡ number
+      → HasBeenAt earlier number links
+  led : (at : ℕ) (link : Reading) → slice_get links at ≡ Some link → dest_of link.passport ≡ number
+      → HasBeenAt earlier number links
 
 -- ---- whether there is room
 
@@ -46,8 +52,8 @@ IsFull message readings = (16 ≤ length (identities message)) ⊎ (8 ≤ length
 -- ---- the number, or why there is none
 
 abbrev pub unless_been : MessageView → List ℕ → List Reading → List ℕ → Result (List ℕ) HopFault
-unless_been message earlier readings number =
-    if has_been_at earlier number (links_of readings) then Err faults.Loop else if is_full message readings then Err faults.Full else Ok number
+unless_been message earlier readings number = if has_been_at earlier number (links_of readings) then Err faults.Loop
+    else if is_full message readings then Err faults.Full else Ok number
 
 abbrev pub onward_to : MessageView → List ℕ → List Reading → Option (List ℕ) → Result (List ℕ) HopFault
 onward_to message earlier readings None = Err faults.Target
@@ -59,8 +65,10 @@ onward message earlier readings hop = onward_to message earlier readings (next_n
 
 -- ---- in words
 
--- the bytes are this message, and this number is called: To's if the call has no diversions, else that of the request URI
-pub record IsCalledBefore (bytes : List ℕ) (readings : List Reading) (hop : HopView) (message : MessageView) (earlier : List ℕ) : Type 0 where
+-- the bytes are this message, and this number is called: To's if the call has no diversions, else that of the request
+-- URI
+pub record IsCalledBefore (bytes : List ℕ) (readings : List Reading) (hop : HopView) (message : MessageView)
+    (earlier : List ℕ) : Type 0 where
   pub head : Head bytes message
   pub called : called_by (facts_of hop.local message) (links_of readings) ≡ Some earlier
 
@@ -70,7 +78,8 @@ pub record LeadsTo (hop : HopView) (number : List ℕ) : Type 0 where
   pub gives : uri_number hop.target hop.local ≡ Some number
 
 -- it does, the call hasn't been there, and there is room
-pub record GoesOnTo (message : MessageView) (earlier : List ℕ) (readings : List Reading) (hop : HopView) (number : List ℕ) : Type 0 where
+pub record GoesOnTo (message : MessageView) (earlier : List ℕ) (readings : List Reading) (hop : HopView)
+    (number : List ℕ) : Type 0 where
   pub leads : LeadsTo hop number
   pub new : HasBeenAt earlier number (links_of readings) → ⊥
   pub room : IsFull message readings → ⊥

@@ -11,7 +11,8 @@ use Rattle.retarget.specs.Hop.{HopView}
 use Rattle.retarget.specs.Onward.{GoesOnTo, IsCalledBefore}
 use Rattle.retarget.specs.Written.{IsWritten}
 
-pub record IsRetargeted (bytes : List ℕ) (readings : List Reading) (hop : HopView) (holder : HolderView) (signs : List ℕ → List ℕ → Option (List ℕ)) (out : List ℕ) : Type 0 where
+pub record IsRetargeted (bytes : List ℕ) (readings : List Reading) (hop : HopView) (holder : HolderView)
+    (signs : List ℕ → List ℕ → Option (List ℕ)) (out : List ℕ) : Type 0 where
   -- the message, and the number that is called before
   pub message : MessageView
   pub earlier : List ℕ
@@ -22,8 +23,8 @@ pub record IsRetargeted (bytes : List ℕ) (readings : List Reading) (hop : HopV
   -- the other request URI, and what the signer wrote
   pub written : IsWritten bytes earlier hop holder signs out
 
--- The last PASSporT of a call has the orig of another call, which goes on, as its own; the number that was called there as its div; and the hop's
--- number as its one dest.
+-- The last PASSporT of a call has the orig of another call, which goes on, as its own; the number that was called there
+-- as its div; and the hop's number as its one dest.
 pub record EndsInDiversion (call : Call) (bytes : List ℕ) (readings : List Reading) (hop : HopView) : Type 0 where
   pub origin : Reading
   pub first : slice_get readings 0 ≡ Some origin
@@ -38,10 +39,13 @@ pub record EndsInDiversion (call : Call) (bytes : List ℕ) (readings : List Rea
   pub kind : link.passport.kind ≡ kinds.Div earlier
   pub dest : link.passport.dest ≡ number ∷ []
 
--- so it is with what was written, whoever judges it, if he numbers as the hop does: it is the last after the PASSporTs that the call had
-pub record AddsDiversion (bytes : List ℕ) (readings : List Reading) (hop : HopView) (out : List ℕ) (settings : Settings) (later : ℕ) : Type 0 where
+-- so it is with what was written, whoever judges it, if he numbers as the hop does: it is the last after the PASSporTs
+-- that the call had
+pub record AddsDiversion (bytes : List ℕ) (readings : List Reading) (hop : HopView) (out : List ℕ) (settings : Settings)
+    (later : ℕ) : Type 0 where
   pub ends : EndsInDiversion (call_of settings later out) bytes readings hop
   pub all : in_call_order (call_of settings later out) ≡ readings ++ ends.link ∷ []
 
 abbrev pub TellsOfDiversion : List ℕ → List Reading → HopView → List ℕ → Type 0
-TellsOfDiversion bytes readings hop out = (settings : Settings) (later : ℕ) → settings.local ≡ hop.local → AddsDiversion bytes readings hop out settings later
+TellsOfDiversion bytes readings hop out = (settings : Settings) (later : ℕ) → settings.local ≡ hop.local
+    → AddsDiversion bytes readings hop out settings later

@@ -1,4 +1,5 @@
--- What the rules of the chains say when the gateway answers: of a call that goes on, or for which one of the faults 21 to 27 comes, that they hold.
+-- What the rules of the chains say when the gateway answers: of a call that goes on, or for which one of the faults 21
+-- to 27 comes, that they hold.
 use Rattle.std.specs.Prelude.{◌≡◌, ⊤, ℕ, List, Result, Ok, Err}
 use Rattle.cert_store.specs.Rules.{Says}
 use Rattle.delegation.specs.Coverage.{Table}
@@ -41,11 +42,13 @@ NamesNoPass faults.Provider = ⊤
 NamesNoPass faults.Memory = ⊤
 
 -- what the rules of the chains give over the chains, of PASSporTs judged at this moment by these codes and signatures
-pub record IsFinished (says : Says) (table : Table) (moment : ℕ) (readings : List Reading) (states : List State) (faults_before faults_now : ℕ) (verdict : Verdict) : Type 0 where
+pub record IsFinished (says : Says) (table : Table) (moment : ℕ) (readings : List Reading) (states : List State)
+    (faults_before faults_now : ℕ) (verdict : Verdict) : Type 0 where
   -- exactly
   pub is : IsVerdict says table moment readings states faults_before faults_now verdict
   -- if the chains are right in a world that judges the call, so is the verdict
-  pub right : (world : World) (call : Call) → IsJudgedBy world call table says moment readings → AreRight world readings states → VerdictOf world call verdict
+  pub right : (world : World) (call : Call) → IsJudgedBy world call table says moment readings
+      → AreRight world readings states → VerdictOf world call verdict
   -- it is left open by a chain that was handed in, or by a question that failed
   pub cause : IsCaused readings states faults_before faults_now verdict
   pub quiet : QuietIs readings states faults_before faults_now verdict

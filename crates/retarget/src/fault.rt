@@ -19,7 +19,8 @@ pub enum HopFault {
     /// The call has been at the target's number.
     #[error("the call has been at the number")]
     Loop,
-    /// The message has 16 Identity fields, or the call 8 diversions, and so there is no room for one more (this project's own limits).
+    /// The message has 16 Identity fields, or the call 8 diversions, and so there is no room for one more (this
+    /// project's own limits).
     #[error("the call was diverted too often")]
     Full,
     /// What goes on would be longer than 65,535 bytes.
@@ -40,7 +41,8 @@ pub enum HopFault {
 }
 
 impl HopFault {
-    /// The fault's number in this project's reports: 21 to 27 in the order of the names; `None` for a verdict, and if memory ran out.
+    /// The fault's number in this project's reports: 21 to 27 in the order of the names; `None` for a verdict, and if
+    /// memory ran out.
     pub fn number(&self) -> Option<u8>
         ensures { result ≡ number_of self.now }
     {
@@ -56,8 +58,8 @@ impl HopFault {
         }
     }
 
-    /// What a fault of the signer is here: a message that can't be signed is one that would be too long, since it is an INVITE that has its
-    /// numbers.
+    /// What a fault of the signer is here: a message that can't be signed is one that would be too long, since it is an
+    /// INVITE that has its numbers.
     pub(crate) fn of(fault: SignFault) -> HopFault
         ensures { result ≡ hop_fault fault }
     {

@@ -24,7 +24,8 @@ pub struct Hop<'a> {
 }
 
 impl<'a> Hop<'a> {
-    /// Whether [`retarget`](crate::retarget) takes the hop: the URI of its certificates and its second are of their forms.
+    /// Whether [`retarget`](crate::retarget) takes the hop: the URI of its certificates and its second are of their
+    /// forms.
     pub fn is_valid(&self) -> bool
         ensures { result ≡ is_hop (hop_of self.now) }
     {

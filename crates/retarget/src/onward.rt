@@ -65,8 +65,8 @@ fn is_full(message: &Message<'_>, screened: &Screened) -> bool
     message.identity_count() >= MOST_FIELDS || screened.count() >= MOST_JUDGED
 }
 
-/// Whether the call has been at a number: the one that the first diversion came from, or one that a diversion led to; and of a call without
-/// diversions the number that is called.
+/// Whether the call has been at a number: the one that the first diversion came from, or one that a diversion led to;
+/// and of a call without diversions the number that is called.
 #[tactic(auto, using(crate::proofs::BeenLaws::been_undiverted, crate::proofs::BeenLaws::been_diverted, crate::proofs::BeenLaws::has_second))]
 fn has_been_at(screened: &Screened, earlier: &Number, number: &Number) -> bool
     ensures { result ≡ has_been_at earlier.now number.now (drop 1 screened.now.readings) }

@@ -17,8 +17,9 @@ use std::alloc::Global;
 use stir_outside::Provider;
 use tn_values::Number;
 
-/// The message with the hop's request URI and one more Identity field, which tells of the diversion from the earlier number; or the first of the
-/// faults `Size`, `Authority` and `NoSignature`. The bytes are an INVITE that has its numbers.
+/// The message with the hop's request URI and one more Identity field, which tells of the diversion from the earlier
+/// number; or the first of the faults `Size`, `Authority` and `NoSignature`. The bytes are an INVITE that has its
+/// numbers.
 #[tactic(auto, using(crate::proofs::WrittenLaws::order_valid, crate::proofs::WrittenLaws::exact_long, crate::proofs::WrittenLaws::exact_ok, crate::proofs::WrittenLaws::named_as), unfolding(crate::specs::Written::written_to))]
 pub(crate) fn written<P: Provider>(
     alloc: Global,
@@ -30,12 +31,16 @@ pub(crate) fn written<P: Provider>(
 ) -> Result<Vec<u8>, HopFault>
     requires hop { IsTrue (is_hop (hop_of hop.now)) }
     requires target { IsTrue (is_target hop.now.target.now) }
-    ensures exact { Gives decided (λ out. out.items) result (written_to bytes.now earlier (hop_of hop.now) (holder_of holder.now) (P.signs provider.old)) }
-    ensures is_written { IfOk result (λ out. IsWritten bytes.now earlier (hop_of hop.now) (holder_of holder.now) (P.signs provider.old) out.items) }
-    ensures causes { IfErr result (λ fault. Why bytes.now earlier (hop_of hop.now) (holder_of holder.now) (P.signs provider.old) fault) }
+    ensures exact { Gives decided (λ out. out.items) result
+        (written_to bytes.now earlier (hop_of hop.now) (holder_of holder.now) (P.signs provider.old)) }
+    ensures is_written { IfOk result
+        (λ out. IsWritten bytes.now earlier (hop_of hop.now) (holder_of holder.now) (P.signs provider.old) out.items) }
+    ensures causes { IfErr result
+        (λ fault. Why bytes.now earlier (hop_of hop.now) (holder_of holder.now) (P.signs provider.old) fault) }
     ensures asked { IsAskedOnce P.Provider provider.old provider.new result }
     ensures provider { ProviderStays P.Provider provider.old provider.new }
-    ensures withheld { CannotSign bytes.now earlier (hop_of hop.now) (holder_of holder.now) → IsLeftAlone (P.asks provider.old) (P.asks provider.new) result }
+    ensures withheld { CannotSign bytes.now earlier (hop_of hop.now) (holder_of holder.now)
+        → IsLeftAlone (P.asks provider.old) (P.asks provider.new) result }
 {
     let moved = match with_target(alloc, bytes, hop.target) {
         Ok(moved) => moved,

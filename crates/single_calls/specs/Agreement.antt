@@ -10,4 +10,5 @@ use Rattle.verify_service.specs.Judging.{call_in}
 abbrev pub JudgedAlike : World → Settings → Says → Says → List Entry → Type 0
 JudgedAlike world settings says other [] = ⊤
 JudgedAlike world settings says other (entry ∷ entries) =
-    (First (with_says world says) (call_in settings entry) ≡ First (with_says world other) (call_in settings entry)) × JudgedAlike world settings says other entries
+    (First (with_says world says) (call_in settings entry) ≡ First (with_says world other) (call_in settings entry))
+    × JudgedAlike world settings says other entries

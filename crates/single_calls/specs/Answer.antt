@@ -2,7 +2,8 @@
 use Rattle.std.specs.Prelude.{ℕ, ◌+◌, Bool, true, false, ◌&&◌, List, [], ◌∷◌, ◌++◌}
 use Rattle.log_run.specs.Batch.{BatchAnswerView}
 
--- what the lines of a call come to: nothing is wrong with it, it breaks a rule, or a file of certificates couldn't be read and a line says so
+-- what the lines of a call come to: nothing is wrong with it, it breaks a rule, or a file of certificates couldn't be
+-- read and a line says so
 pub data CallStatus : Type 0 where
   Well : CallStatus
   Broken : CallStatus

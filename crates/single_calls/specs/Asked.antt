@@ -1,4 +1,5 @@
--- Which questions are asked for the calls of a log, each in words (this project's own rule): whether one is asked, whatever its place.
+-- Which questions are asked for the calls of a log, each in words (this project's own rule): whether one is asked,
+-- whatever its place.
 use Rattle.std.specs.Prelude.{⊤, List, [], ◌∷◌}
 use Rattle.call_log.specs.Entry.{Entry}
 use Rattle.cert_store.specs.Rules.{QuestionView}

@@ -34,37 +34,44 @@ asking_world materials files = world_by materials files always_yes
 -- ---- an answer
 
 -- The lines of what is asked for this call, except for what was asked for the calls before.
-pub record AsksOf (world : World) (settings : Settings) (before : List Entry) (entry : Entry) (answer : AnswerView) : Type 0 where
+pub record AsksOf (world : World) (settings : Settings) (before : List Entry) (entry : Entry)
+    (answer : AnswerView) : Type 0 where
   pub sign : answer.finding ≡ Well
-  pub lines : answer.text ≡ ask_lines (fresh (calls_questions world settings before) (call_questions world (call_in settings entry)))
+  pub lines : answer.text
+      ≡ ask_lines (fresh (calls_questions world settings before) (call_questions world (call_in settings entry)))
 
 -- by the files that a shelf tells
 abbrev pub AskedBy : AskerView → Option Files → List Entry → Entry → AnswerView → Type 0
 AskedBy asker None before entry answer = answer.finding ≡ Well
-AskedBy asker (Some files) before entry answer = AsksOf (asking_world asker.materials files) asker.settings before entry answer
+AskedBy asker (Some files) before entry answer =
+    AsksOf (asking_world asker.materials files) asker.settings before entry answer
 
 -- what was asked is what is asked for these calls
 abbrev pub BehindAsked : AskerView → Option Files → List Entry → Type 0
 BehindAsked asker None before = ⊤
-BehindAsked asker (Some files) before = Holds asker.written (calls_questions (asking_world asker.materials files) asker.settings before)
+BehindAsked asker (Some files) before =
+    Holds asker.written (calls_questions (asking_world asker.materials files) asker.settings before)
 
 -- what was asked for these batches was written, and nothing else of what asks changed
-pub record AskedBatches (asker now : AskerView) (told : Option Files) (faults faults_now : ℕ) (batches : List Batch) : Type 0 where
+pub record AskedBatches (asker now : AskerView) (told : Option Files) (faults faults_now : ℕ)
+    (batches : List Batch) : Type 0 where
   pub so : AnsweredSingly (AskedBy asker told) faults faults_now batches
   pub asked : BehindAsked now told (calls_in batches)
   pub same : now ≡ record asker { written = now.written }
 
 -- ---- a stop
 
--- The call breaks none of the rules of the call; the file is listed for a PASSporT of it; and the lines are those of what is asked for the chains of
--- the PASSporTs before.
-pub record StopsAt (world : World) (settings : Settings) (before : List Entry) (entry : Entry) (text name : List ℕ) : Type 0 where
+-- The call breaks none of the rules of the call; the file is listed for a PASSporT of it; and the lines are those of
+-- what is asked for the chains of the PASSporTs before.
+pub record StopsAt (world : World) (settings : Settings) (before : List Entry) (entry : Entry)
+    (text name : List ℕ) : Type 0 where
   pub early : first early_rules (call_in settings entry) ≡ None
   pub at : ℕ
   pub here : Reading
   pub is : slice_get (in_call_order (call_in settings entry)) at ≡ Some here
   pub named : listed world.chains here.passport.x5u ≡ Some name
-  pub lines : text ≡ ask_lines (fresh (calls_questions world settings before) (chains_questions (truths world (take at (in_call_order (call_in settings entry))))))
+  pub lines : text ≡ ask_lines (fresh (calls_questions world settings before)
+      (chains_questions (truths world (take at (in_call_order (call_in settings entry))))))
 
 -- the chain map names the file
 abbrev pub IsNamed : Materials → List ℕ → Type 0
@@ -72,4 +79,5 @@ IsNamed materials name = (x5u : List ℕ) × (listed materials.chains x5u ≡ So
 
 abbrev pub StopsAsking : AskerView → Option Files → List Entry → Entry → List ℕ → List ℕ → Type 0
 StopsAsking asker None before entry text name = IsNamed asker.materials name
-StopsAsking asker (Some files) before entry text name = StopsAt (asking_world asker.materials files) asker.settings before entry text name
+StopsAsking asker (Some files) before entry text name =
+    StopsAt (asking_world asker.materials files) asker.settings before entry text name

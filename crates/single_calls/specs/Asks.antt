@@ -1,5 +1,5 @@
--- What is asked of a provider of signatures for the calls of a log, each question once (this project's own format): the lines of an answers
--- file that confirms all of them.
+-- What is asked of a provider of signatures for the calls of a log, each question once (this project's own format): the
+-- lines of an answers file that confirms all of them.
 use Rattle.std.specs.Prelude.{Bool, true, false, ◌&&◌, ℕ, List, [], ◌∷◌, ◌++◌}
 use Rattle.std.specs.List.{list_any}
 use Rattle.std.specs.Str.{bytes_eq}
@@ -14,7 +14,8 @@ use Rattle.call_judging.specs.CallQuestions.{call_questions}
 -- ---- each once
 
 abbrev pub is_same : QuestionView → QuestionView → Bool
-is_same one other = bytes_eq one.key other.key && (bytes_eq one.digest other.digest && bytes_eq one.signature other.signature)
+is_same one other =
+    bytes_eq one.key other.key && (bytes_eq one.digest other.digest && bytes_eq one.signature other.signature)
 
 -- one of these is this question
 abbrev pub was_asked : List QuestionView → QuestionView → Bool
@@ -34,7 +35,8 @@ fresh before (asked ∷ others) = unless_asked (was_asked before asked) asked (f
 -- those of each call, in the order of the log
 abbrev pub calls_questions : World → Settings → List Entry → List QuestionView
 calls_questions world settings [] = []
-calls_questions world settings (entry ∷ entries) = call_questions world (call_in settings entry) ++ calls_questions world settings entries
+calls_questions world settings (entry ∷ entries) =
+    call_questions world (call_in settings entry) ++ calls_questions world settings entries
 
 -- What is asked for these calls, each question once.
 abbrev pub asked_of : World → Settings → List Entry → List QuestionView

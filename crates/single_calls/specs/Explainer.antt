@@ -55,7 +55,8 @@ pub record ExplainsUnread (world : World) (settings : Settings) (entry : Entry) 
   pub sign : answer.finding ≡ Unread
 
 abbrev pub IsExplained : World → Settings → Entry → AnswerView → Type 0
-IsExplained world settings entry answer = Explains world settings entry answer ⊎ ExplainsUnread world settings entry answer
+IsExplained world settings entry answer =
+    Explains world settings entry answer ⊎ ExplainsUnread world settings entry answer
 
 -- whatever the files are, it is the explanation of something that may be found of a call
 pub record IsOfFinding (entry : Entry) (answer : AnswerView) : Type 0 where
@@ -77,6 +78,7 @@ abbrev pub NeverStops : ExplainerView → Option Files → List Entry → Entry 
 NeverStops explainer told before entry text name = ⊥
 
 -- these batches were explained, and by what calls are explained is the same
-pub record ExplainedBatches (explainer now : ExplainerView) (told : Option Files) (faults faults_now : ℕ) (batches : List Batch) : Type 0 where
+pub record ExplainedBatches (explainer now : ExplainerView) (told : Option Files) (faults faults_now : ℕ)
+    (batches : List Batch) : Type 0 where
   pub so : AnsweredSingly (ExplainedBy explainer told) faults faults_now batches
   pub same : now ≡ explainer

@@ -20,8 +20,8 @@ is_held held asked = list_any (same_triple (triple_of asked)) held
 abbrev pub Holds : List Triple → List QuestionView → Type 0
 Holds held before = (asked : QuestionView) → is_held held asked ≡ was_asked before asked
 
--- The lines of these questions were written after the text, except for those that were written before; and the questions
--- are held now.
+-- The lines of these questions were written after the text, except for those that were written before; and the
+-- questions are held now.
 pub record Writes (held held_now : List Triple) (text text_now : List ℕ) (questions : List QuestionView) : Type 0 where
   pub holds : (before : List QuestionView) → Holds held before → Holds held_now (before ++ questions)
   pub lines : (before : List QuestionView) → Holds held before → text_now ≡ text ++ ask_lines (fresh before questions)

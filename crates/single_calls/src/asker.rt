@@ -25,8 +25,9 @@ use stir_outside::Shelf;
 use verify_rules::{ScreenFault, Screened, Settings, finish, screen, screened_law};
 use verify_service::call_law;
 
-/// Says which questions a provider of signatures would be asked for calls, each by itself: over a chain map, trust anchors, a code table and
-/// the files of a shelf. A question that was asked for an earlier call isn't asked again; of the calls before, only these questions are kept.
+/// Says which questions a provider of signatures would be asked for calls, each by itself: over a chain map, trust
+/// anchors, a code table and the files of a shelf. A question that was asked for an earlier call isn't asked again; of
+/// the calls before, only these questions are kept.
 ///
 /// A contract sees the settings, what calls are judged by, and the questions that were asked.
 #[derive(Drop)]
@@ -58,8 +59,12 @@ impl Asker {
 
     /// Asks for a call, and keeps what was asked.
     fn ask<S: Shelf>(&mut self, alloc: Global, shelf: &mut S, call: &Call) -> Answered
-        ensures asked { IfOk result (OneAnswer (BehindAsked self.old (S.files shelf.old)) (BehindAsked self.new (S.files shelf.old)) (AskedBy self.old (S.files shelf.old)) (S.counts shelf.old).faults (S.counts shelf.new).faults call.now) }
-        ensures stopped { IfErr result (StopsBy (BehindAsked self.old (S.files shelf.old)) (StopsAsking self.old (S.files shelf.old)) call.now (S.counts shelf.old).faults (S.counts shelf.new).faults) }
+        ensures asked { IfOk result
+            (OneAnswer (BehindAsked self.old (S.files shelf.old)) (BehindAsked self.new (S.files shelf.old))
+            (AskedBy self.old (S.files shelf.old)) (S.counts shelf.old).faults (S.counts shelf.new).faults call.now) }
+        ensures stopped { IfErr result
+            (StopsBy (BehindAsked self.old (S.files shelf.old)) (StopsAsking self.old (S.files shelf.old)) call.now
+            (S.counts shelf.old).faults (S.counts shelf.new).faults) }
         ensures same { self.new ≡ record self.old { written = self.new.written } }
         ensures shelf { ShelfStays S.Shelf shelf.old shelf.new }
     {
@@ -86,11 +91,14 @@ impl LogCommand for Asker {
     ghost use Rattle.single_calls.specs.Asker.{AskedBatches, AskedBy, StopsAsking};
     ghost use Rattle.single_calls.specs.Singly.{SinglyClosed, SinglyStopped};
 
-    ghost behind = { λ first before now counts files batches. AskedBatches first now files before.faults counts.faults batches };
+    ghost behind = { λ first before now counts files batches.
+        AskedBatches first now files before.faults counts.faults batches };
 
-    ghost stopped = { λ first before now counts files batches calls stop. SinglyStopped (AskedBy first files) (StopsAsking first files) before.faults counts.faults batches calls stop };
+    ghost stopped = { λ first before now counts files batches calls stop.
+        SinglyStopped (AskedBy first files) (StopsAsking first files) before.faults counts.faults batches calls stop };
 
-    ghost closed = { λ first before now counts files batches text. SinglyClosed (AskedBy first files) before.faults counts.faults batches text };
+    ghost closed = { λ first before now counts files batches text.
+        SinglyClosed (AskedBy first files) before.faults counts.faults batches text };
 
     ghost stands = { λ a counts files passed. ⊤ };
 
@@ -127,9 +135,11 @@ fn ask_call<S: Shelf>(
     written: &mut Written,
     text: &mut String,
 ) -> Result<(), ChainError>
-    ensures writes { OnOk result (WritesCall (S.files shelf.old) world.now (call_in settings.now call.now) (lines written.old (string_bytes text.old)) (lines written.new (string_bytes text.new))) }
-    ensures stopped { IfErr result (StopsCall (S.files shelf.old) world.now (call_in settings.now call.now) (lines written.old (string_bytes text.old))
-        (lines written.new (string_bytes text.new)) (S.counts shelf.old).faults (S.counts shelf.new).faults) }
+    ensures writes { OnOk result (WritesCall (S.files shelf.old) world.now (call_in settings.now call.now)
+        (lines written.old (string_bytes text.old)) (lines written.new (string_bytes text.new))) }
+    ensures stopped { IfErr result (StopsCall (S.files shelf.old) world.now (call_in settings.now call.now)
+        (lines written.old (string_bytes text.old)) (lines written.new (string_bytes text.new))
+        (S.counts shelf.old).faults (S.counts shelf.new).faults) }
     ensures shelf { ShelfStays S.Shelf shelf.old shelf.new }
 {
     call_law();
@@ -143,8 +153,8 @@ fn ask_call<S: Shelf>(
     }
 }
 
-/// Writes those of a call that was screened: the questions of its chains, and those of its PASSporTs if it breaks none of the rules before
-/// the first that asks.
+/// Writes those of a call that was screened: the questions of its chains, and those of its PASSporTs if it breaks none
+/// of the rules before the first that asks.
 fn ask_screened<S: Shelf>(
     alloc: Global,
     world: &World,
@@ -155,7 +165,8 @@ fn ask_screened<S: Shelf>(
     text: &mut String,
 ) -> Result<(), ChainError>
     ensures writes { (call : RuledCall) → IsScreenedBy early_rules call (Ok screened.now) → moment ≡ call.moment
-        → OnOk result (WritesCall (S.files shelf.old) world.now call (lines written.old (string_bytes text.old)) (lines written.new (string_bytes text.new))) }
+        → OnOk result (WritesCall (S.files shelf.old) world.now call (lines written.old (string_bytes text.old))
+        (lines written.new (string_bytes text.new))) }
     ensures stopped { (call : RuledCall) → IsScreenedBy early_rules call (Ok screened.now)
         → IfErr result (StopsCall (S.files shelf.old) world.now call (lines written.old (string_bytes text.old))
         (lines written.new (string_bytes text.new)) (S.counts shelf.old).faults (S.counts shelf.new).faults) }

@@ -16,7 +16,8 @@ pub(crate) fn ask_chain(
     written: &mut Written,
     text: &mut String,
 ) -> Result<(), AllocError>
-    ensures { OnOk result (Writes written.old written.new (string_bytes text.old) (string_bytes text.new) (chain_questions (state_of chain.now))) }
+    ensures { OnOk result (Writes written.old written.new (string_bytes text.old) (string_bytes text.new)
+        (chain_questions (state_of chain.now))) }
 {
     let questions = chain_questions(alloc, chain.state())?;
     written.add_all(alloc, questions.as_slice(), text)
@@ -31,7 +32,8 @@ pub(crate) fn ask_own(
     text: &mut String,
 ) -> Result<(), AllocError>
     requires one_each { length chains.now ≡ length screened.now.readings }
-    ensures { OnOk result (Writes written.old written.new (string_bytes text.old) (string_bytes text.new) (own_questions screened.now.readings chains.now)) }
+    ensures { OnOk result (Writes written.old written.new (string_bytes text.old) (string_bytes text.new)
+        (own_questions screened.now.readings chains.now)) }
 {
     let questions = own_questions(alloc, screened, chains)?;
     written.add_all(alloc, questions.as_slice(), text)

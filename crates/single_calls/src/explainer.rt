@@ -16,8 +16,8 @@ use stir_outside::{Answers, Shelf};
 use verify_rules::Settings;
 use verify_service::call_law;
 
-/// Explains calls, each by itself: over a chain map, trust anchors, a code table and the files of a shelf, with an answers file as the
-/// provider of signatures.
+/// Explains calls, each by itself: over a chain map, trust anchors, a code table and the files of a shelf, with an
+/// answers file as the provider of signatures.
 ///
 /// A contract sees the settings, what calls are judged by, and what the answers file says.
 #[derive(Drop)]
@@ -54,7 +54,8 @@ impl<'a> Explainer<'a> {
         shelf: &mut S,
         call: &Call,
     ) -> Result<BatchAnswer, AllocError>
-        ensures explained { IfOk result (OneAnswer BehindAny BehindAny (ExplainedBy self.now (S.files shelf.old)) (S.counts shelf.old).faults (S.counts shelf.new).faults call.now) }
+        ensures explained { IfOk result (OneAnswer BehindAny BehindAny (ExplainedBy self.now (S.files shelf.old))
+            (S.counts shelf.old).faults (S.counts shelf.new).faults call.now) }
         ensures shelf { ShelfStays S.Shelf shelf.old shelf.new }
     {
         call_law();
@@ -101,11 +102,14 @@ impl<'a> LogCommand for Explainer<'a> {
     ghost use Rattle.single_calls.specs.Explainer.{ExplainedBatches, ExplainedBy, NeverStops};
     ghost use Rattle.single_calls.specs.Singly.{SinglyClosed, SinglyStopped};
 
-    ghost behind = { λ first before now counts files batches. ExplainedBatches first now files before.faults counts.faults batches };
+    ghost behind = { λ first before now counts files batches.
+        ExplainedBatches first now files before.faults counts.faults batches };
 
-    ghost stopped = { λ first before now counts files batches calls stop. SinglyStopped (ExplainedBy first files) (NeverStops first files) before.faults counts.faults batches calls stop };
+    ghost stopped = { λ first before now counts files batches calls stop. SinglyStopped (ExplainedBy first files)
+        (NeverStops first files) before.faults counts.faults batches calls stop };
 
-    ghost closed = { λ first before now counts files batches text. SinglyClosed (ExplainedBy first files) before.faults counts.faults batches text };
+    ghost closed = { λ first before now counts files batches text.
+        SinglyClosed (ExplainedBy first files) before.faults counts.faults batches text };
 
     ghost stands = { λ e counts files passed. ⊤ };
 

@@ -26,8 +26,8 @@ pub(crate) enum ChainError {
     Memory,
 }
 
-/// Reads and judges the chain of each PASSporT of a call, in the order in which the call went, and writes the lines of its questions before
-/// the next one is read. It stops at a file that can't be read.
+/// Reads and judges the chain of each PASSporT of a call, in the order in which the call went, and writes the lines of
+/// its questions before the next one is read. It stops at a file that can't be read.
 pub(crate) fn ask_chains<S: Shelf>(
     alloc: Global,
     world: &World,
@@ -40,8 +40,10 @@ pub(crate) fn ask_chains<S: Shelf>(
 ) -> Result<(), ChainError>
     requires none { chains.old ≡ [] }
     ensures counted { OnOk result (length chains.new ≡ length screened.now.readings) }
-    ensures asked { OnOk result (AreAsked (S.files shelf.old) world.now screened.now.readings (lines written.old (string_bytes text.old)) (lines written.new (string_bytes text.new)) chains.new) }
-    ensures stopped { IfErr result (Stopped (S.files shelf.old) world.now screened.now.readings (lines written.old (string_bytes text.old))
+    ensures asked { OnOk result (AreAsked (S.files shelf.old) world.now screened.now.readings
+        (lines written.old (string_bytes text.old)) (lines written.new (string_bytes text.new)) chains.new) }
+    ensures stopped { IfErr result
+        (Stopped (S.files shelf.old) world.now screened.now.readings (lines written.old (string_bytes text.old))
         (lines written.new (string_bytes text.new)) (S.counts shelf.old).faults (S.counts shelf.new).faults) }
     ensures shelf { ShelfStays S.Shelf shelf.old shelf.new }
 {
@@ -72,9 +74,11 @@ fn known_chain<S: Shelf>(
     provider: &mut AlwaysYes,
     x5u: &[u8],
 ) -> Result<ChainStatus, ChainError>
-    ensures right { IfOk result (λ chain. IsRightWhere (S.files shelf.old) world.now always_yes x5u.now (state_of chain)) }
+    ensures right { IfOk result
+        (λ chain. IsRightWhere (S.files shelf.old) world.now always_yes x5u.now (state_of chain)) }
     ensures known { IfOk result (λ chain. is_unread (state_of chain) ≡ false) }
-    ensures stopped { IfErr result (StopsFor world.now x5u.now (S.counts shelf.old).faults (S.counts shelf.new).faults) }
+    ensures stopped { IfErr result
+        (StopsFor world.now x5u.now (S.counts shelf.old).faults (S.counts shelf.new).faults) }
     ensures shelf { ShelfStays S.Shelf shelf.old shelf.new }
 {
     right_law();

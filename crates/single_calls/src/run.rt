@@ -18,9 +18,9 @@ use stir_outside::{Shelf, Sink, Source};
 
 /// Explains the calls of a log one by one, and writes the lines of each before the next is read.
 ///
-/// The status is 0 if each call breaks no rule, else 1. If the log is outside its grammar, or a read of it fails, the whole entries before are
-/// explained, and a line says so: status 5 or 3. If a write fails, the status is 4, and what was written is a prefix of the whole. If memory runs
-/// out, whole lines were written, and a line says so: status 6.
+/// The status is 0 if each call breaks no rule, else 1. If the log is outside its grammar, or a read of it fails, the
+/// whole entries before are explained, and a line says so: status 5 or 3. If a write fails, the status is 4, and what
+/// was written is a prefix of the whole. If memory runs out, whole lines were written, and a line says so: status 6.
 pub fn explain_log<R: Threads + Sync, S: Shelf, I: Source, O: Sink>(
     rt: &R,
     alloc: Global,
@@ -29,8 +29,10 @@ pub fn explain_log<R: Threads + Sync, S: Shelf, I: Source, O: Sink>(
     input: &mut I,
     sink: &mut O,
 ) -> u8
-    ensures says { LogSays (singly_words (ExplainedBy explainer.old (S.files shelf.old)) (NeverStops explainer.old (S.files shelf.old)) (S.counts shelf.old).faults (S.counts shelf.new).faults)
-        (start 0 0) (run_state (I.left input.old) (streams_of I.Source O.Sink input.old sink.old)) (run_state (I.left input.new) (streams_of I.Source O.Sink input.new sink.new)) result }
+    ensures says { LogSays (singly_words (ExplainedBy explainer.old (S.files shelf.old))
+        (NeverStops explainer.old (S.files shelf.old)) (S.counts shelf.old).faults (S.counts shelf.new).faults)
+        (start 0 0) (run_state (I.left input.old) (streams_of I.Source O.Sink input.old sink.old))
+        (run_state (I.left input.new) (streams_of I.Source O.Sink input.new sink.new)) result }
     ensures shelf { ShelfStays S.Shelf shelf.old shelf.new }
 {
     one_log();
@@ -38,10 +40,11 @@ pub fn explain_log<R: Threads + Sync, S: Shelf, I: Source, O: Sink>(
     run_log(rt, alloc, explainer, &mut reader, shelf, input, sink)
 }
 
-/// Asks for the calls of a log one by one, by what has asked nothing before, and writes the lines of each before the next is read.
+/// Asks for the calls of a log one by one, by what has asked nothing before, and writes the lines of each before the
+/// next is read.
 ///
-/// The status is that of [`explain_log`], except that nothing is wrong with a call. If a file of certificates can't be read, the lines before are
-/// written, and a line names it: status 3.
+/// The status is that of [`explain_log`], except that nothing is wrong with a call. If a file of certificates can't be
+/// read, the lines before are written, and a line names it: status 3.
 pub fn ask_log<R: Threads + Sync, S: Shelf, I: Source, O: Sink>(
     rt: &R,
     alloc: Global,
@@ -51,8 +54,10 @@ pub fn ask_log<R: Threads + Sync, S: Shelf, I: Source, O: Sink>(
     sink: &mut O,
 ) -> u8
     requires { BehindAsked asker.old (S.files shelf.old) [] }
-    ensures says { LogSays (singly_words (AskedBy asker.old (S.files shelf.old)) (StopsAsking asker.old (S.files shelf.old)) (S.counts shelf.old).faults (S.counts shelf.new).faults)
-        (start 0 0) (run_state (I.left input.old) (streams_of I.Source O.Sink input.old sink.old)) (run_state (I.left input.new) (streams_of I.Source O.Sink input.new sink.new)) result }
+    ensures says { LogSays (singly_words (AskedBy asker.old (S.files shelf.old))
+        (StopsAsking asker.old (S.files shelf.old)) (S.counts shelf.old).faults (S.counts shelf.new).faults) (start 0 0)
+        (run_state (I.left input.old) (streams_of I.Source O.Sink input.old sink.old))
+        (run_state (I.left input.new) (streams_of I.Source O.Sink input.new sink.new)) result }
     ensures shelf { ShelfStays S.Shelf shelf.old shelf.new }
 {
     one_log();

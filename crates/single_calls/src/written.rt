@@ -49,7 +49,8 @@ impl Written {
         question: &Question<'_>,
         text: &mut String,
     ) -> Result<(), AllocError>
-        ensures { OnOk result (Writes self.old self.new (string_bytes text.old) (string_bytes text.new) (seen question.now ∷ [])) }
+        ensures { OnOk result
+            (Writes self.old self.new (string_bytes text.old) (string_bytes text.new) (seen question.now ∷ [])) }
     {
         let triple = Triple {
             key: *question.key,
@@ -71,7 +72,8 @@ impl Written {
         questions: &[Question<'_>],
         text: &mut String,
     ) -> Result<(), AllocError>
-        ensures { OnOk result (Writes self.old self.new (string_bytes text.old) (string_bytes text.new) (map seen questions.now)) }
+        ensures { OnOk result
+            (Writes self.old self.new (string_bytes text.old) (string_bytes text.new) (map seen questions.now)) }
     {
         'questions: for question in questions {
             self.add(alloc, question, text)?;

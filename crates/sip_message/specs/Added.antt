@@ -1,6 +1,7 @@
--- A message with one more header field, in a line of its own directly before the empty line that ends the head (RFC 3261,
--- sections 7.3.1 and 7.5).
-use Rattle.std.specs.Prelude.{ℕ, Bool, not, ◌||◌, ◌&&◌, nat_le, List, [], ◌∷◌, ◌++◌, length, take, drop, Result, Ok, Err, if◌then◌else◌}
+-- A message with one more header field, in a line of its own directly before the empty line that ends the head (RFC
+-- 3261, sections 7.3.1 and 7.5).
+use Rattle.std.specs.Prelude.{ℕ, Bool, not, ◌||◌, ◌&&◌, nat_le, List, [], ◌∷◌, ◌++◌, length, take, drop, Result, Ok}
+use Rattle.std.specs.Prelude.{Err, if◌then◌else◌}
 use Rattle.std.specs.Str.{bytes_eq}
 use Rattle.text_grammar.specs.Bytes.{is_empty}
 use Rattle.text_grammar.specs.Cut.{lacks}

@@ -1,6 +1,7 @@
--- The number of an address or a URI (RFC 3261, sections 19.1, 20.10 and 25.1; RFC 3966, section 3; which part is the number's text is
--- this project's own rule).
-use Rattle.std.specs.Prelude.{ℕ, ◌&&◌, nat_le, List, length, take, drop, Option, Some, None, codes, option_and_then, if◌then◌else◌}
+-- The number of an address or a URI (RFC 3261, sections 19.1, 20.10 and 25.1; RFC 3966, section 3; which part is the
+-- number's text is this project's own rule).
+use Rattle.std.specs.Prelude.{ℕ, ◌&&◌, nat_le, List, length, take, drop, Option, Some, None, codes, option_and_then}
+use Rattle.std.specs.Prelude.{if◌then◌else◌}
 use Rattle.std.specs.Option.{option_map_or}
 use Rattle.std.specs.Str.{str_eq_ignore_ascii_case}
 use Rattle.text_grammar.specs.Cut.{cut}
@@ -32,8 +33,8 @@ address value = option_map_or (before 62) (behind_bracket value) (before 9 (befo
 
 -- what comes after the scheme, which is compared without case
 abbrev pub behind_scheme : List ℕ → List ℕ → Option (List ℕ)
-behind_scheme scheme uri =
-    if nat_le (length scheme) (length uri) && str_eq_ignore_ascii_case (take (length scheme) uri) scheme then Some (drop (length scheme) uri) else None
+behind_scheme scheme uri = if nat_le (length scheme) (length uri)
+    && str_eq_ignore_ascii_case (take (length scheme) uri) scheme then Some (drop (length scheme) uri) else None
 
 -- the number of a user part: up to its first `;` or `:`
 abbrev pub user_part_number : LocalView → List ℕ × List ℕ → Option (List ℕ)
@@ -55,7 +56,8 @@ by_scheme local None None (Some sips) = user_number local sips
 by_scheme local None None None = None
 
 abbrev pub uri_number : List ℕ → LocalView → Option (List ℕ)
-uri_number uri local = by_scheme local (behind_scheme (codes "tel:") uri) (behind_scheme (codes "sip:") uri) (behind_scheme (codes "sips:") uri)
+uri_number uri local = by_scheme local (behind_scheme (codes "tel:") uri) (behind_scheme (codes "sip:") uri)
+    (behind_scheme (codes "sips:") uri)
 
 -- the number of the first address of a value
 abbrev pub address_number : List ℕ → LocalView → Option (List ℕ)

@@ -1,4 +1,5 @@
--- Which header field has which compact form: row by row, in the order of the letters (RFC 3261, sections 7.3.3 and 20; RFC 8224, section 4, for Identity).
+-- Which header field has which compact form: row by row, in the order of the letters (RFC 3261, sections 7.3.3 and 20;
+-- RFC 8224, section 4, for Identity).
 use Rattle.std.specs.Prelude.{ℕ, Bool, false, ◌||◌, List, [], ◌∷◌, codes}
 use Rattle.sip_message.specs.FieldValue.{is_pair}
 
@@ -29,4 +30,5 @@ compact_rows =
 abbrev pub is_in_row : List ℕ → List ℕ → List CompactRow → Bool
 is_in_row letter name [] = false
 is_in_row letter name (one ∷ []) = is_pair letter name one.letter one.name
-is_in_row letter name (one ∷ next ∷ others) = is_pair letter name one.letter one.name || is_in_row letter name (next ∷ others)
+is_in_row letter name (one ∷ next ∷ others) =
+    is_pair letter name one.letter one.name || is_in_row letter name (next ∷ others)

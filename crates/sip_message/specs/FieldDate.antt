@@ -1,5 +1,5 @@
--- The time that a message's header field says (RFC 3261, section 20.17; the three forms of RFC 9110, section 5.6.7, as `httpdate`
--- says them).
+-- The time that a message's header field says (RFC 3261, section 20.17; the three forms of RFC 9110, section 5.6.7, as
+-- `httpdate` says them).
 use Rattle.std.specs.Prelude.{◌≡◌, ℕ, Bool, List}
 use Rattle.httpdate.specs.Date.{IsDateText, unix_secs}
 use Rattle.httpdate.specs.declared.date.HttpDate.{HttpDate}

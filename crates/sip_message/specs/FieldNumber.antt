@@ -1,5 +1,5 @@
--- The telephone numbers of a message's header fields (RFC 3261, sections 20.20 and 20.39; RFC 3325, section 9.1; that the asserted
--- number goes before From's is this project's own rule).
+-- The telephone numbers of a message's header fields (RFC 3261, sections 20.20 and 20.39; RFC 3325, section 9.1; that
+-- the asserted number goes before From's is this project's own rule).
 use Rattle.std.specs.Prelude.{◌≡◌, ℕ, Bool, true, not, List, [], ◌∷◌, ◌++◌}
 use Rattle.std.specs.List.{list_all}
 use Rattle.tn_values.specs.Local.{LocalView}
@@ -25,7 +25,8 @@ pub record AddressGives (value : List ℕ) (local : LocalView) (number : List �
   pub gives : GivesNumber uri local number
 
 -- the first field with such a name gives this number
-pub record IsNumberOf (test : List ℕ → Bool) (fields : List FieldView) (local : LocalView) (number : List ℕ) : Type 0 where
+pub record IsNumberOf (test : List ℕ → Bool) (fields : List FieldView) (local : LocalView)
+    (number : List ℕ) : Type 0 where
   pub value : List ℕ
   pub first : IsFirst test fields value
   pub gives : AddressGives value local number
@@ -33,11 +34,12 @@ pub record IsNumberOf (test : List ℕ → Bool) (fields : List FieldView) (loca
 -- no field with such a name gives a number
 abbrev pub NoneGives : (List ℕ → Bool) → LocalView → List FieldView → Type 0
 NoneGives test local [] = Unit {0}
-NoneGives test local (field ∷ others) =
-    (test field.name ≡ true → (number : List ℕ) → AddressGives field.value local number → ⊥) × NoneGives test local others
+NoneGives test local (field ∷ others) = (test field.name ≡ true → (number : List ℕ)
+    → AddressGives field.value local number → ⊥) × NoneGives test local others
 
 -- the first field with such a name that gives a number gives this one
-pub record IsFirstNumber (test : List ℕ → Bool) (fields : List FieldView) (local : LocalView) (number : List ℕ) : Type 0 where
+pub record IsFirstNumber (test : List ℕ → Bool) (fields : List FieldView) (local : LocalView)
+    (number : List ℕ) : Type 0 where
   pub earlier : List FieldView
   pub own : FieldView
   pub later : List FieldView
@@ -49,5 +51,5 @@ pub record IsFirstNumber (test : List ℕ → Bool) (fields : List FieldView) (l
 -- the calling number: the asserted one; if none is asserted, From's
 pub data IsCalling (message : MessageView) (local : LocalView) (number : List ℕ) : Type 0 where
   asserted : IsFirstNumber is_asserted message.fields local number → IsCalling message local number
-  from : ((other : List ℕ) → IsFirstNumber is_asserted message.fields local other → ⊥) → IsNumberOf is_from message.fields local number
-      → IsCalling message local number
+  from : ((other : List ℕ) → IsFirstNumber is_asserted message.fields local other → ⊥)
+      → IsNumberOf is_from message.fields local number → IsCalling message local number

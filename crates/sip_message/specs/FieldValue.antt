@@ -11,7 +11,8 @@ use Rattle.sip_message.specs.Message.{FieldView, MessageView}
 abbrev pub is_pair : List ℕ → List ℕ → List ℕ → List ℕ → Bool
 is_pair short long form name = str_eq_ignore_ascii_case short form && str_eq_ignore_ascii_case long name
 
--- the one is the compact form of the other (RFC 3261, section 20; RFC 8224, section 4, for Identity), in letters of either case
+-- the one is the compact form of the other (RFC 3261, section 20; RFC 8224, section 4, for Identity), in letters of
+-- either case
 abbrev pub is_compact_form : List ℕ → List ℕ → Bool
 is_compact_form short long =
     is_pair short long (codes "c") (codes "Content-Type")
@@ -28,7 +29,8 @@ is_compact_form short long =
 
 -- two names are one field's: they differ in the case of letters alone, or one is the compact form of the other
 abbrev pub is_one_field : List ℕ → List ℕ → Bool
-is_one_field name other = str_eq_ignore_ascii_case name other || is_compact_form name other || is_compact_form other name
+is_one_field name other =
+    str_eq_ignore_ascii_case name other || is_compact_form name other || is_compact_form other name
 
 -- ---- the fields of a name
 

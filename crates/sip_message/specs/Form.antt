@@ -22,7 +22,8 @@ place_of_surplus end (one ∷ []) = None
 place_of_surplus end (one ∷ second ∷ others) = Some second.first.place
 
 abbrev pub IsSurplusAt : (List ℕ → Bool) → ℕ → List Group → ℕ → Type 0
-IsSurplusAt test end groups place = place_of_surplus end (filter (λ (group : Group). test group.name) groups) ≡ Some place
+IsSurplusAt test end groups place =
+    place_of_surplus end (filter (λ (group : Group). test group.name) groups) ≡ Some place
 
 -- the faults in the order in which they are tried
 pub data FormOf (bytes : List ℕ) (found : FormFault) : Type 0 where
@@ -32,14 +33,18 @@ pub data FormOf (bytes : List ℕ) (found : FormFault) : Type 0 where
   start_line : length bytes ≤ 65535 → (first : LineView) (others : List LineView) → lines_of bytes ≡ first ∷ others
       → ((method uri : List ℕ) → IsStartLine first.text method uri → ⊥) → found ≡ fault 2 0 → FormOf bytes found
   -- 3: the first line after the groups is a bad one
-  header_line : (method uri : List ℕ) (groups : List Group) (bad : LineView) (behind : List LineView) → Begins bytes method uri groups (bad ∷ behind)
-      → IsBadLine groups bad.text → found ≡ fault 3 bad.place → FormOf bytes found
+  header_line : (method uri : List ℕ) (groups : List Group) (bad : LineView) (behind : List LineView)
+      → Begins bytes method uri groups (bad ∷ behind) → IsBadLine groups bad.text
+      → found ≡ fault 3 bad.place → FormOf bytes found
   -- 4: no empty line, in bytes without a line or after the groups
   no_line : length bytes ≤ 65535 → lines_of bytes ≡ [] → found ≡ fault 4 (length bytes) → FormOf bytes found
-  no_end : (method uri : List ℕ) (groups : List Group) → Begins bytes method uri groups [] → found ≡ fault 4 (length bytes) → FormOf bytes found
+  no_end : (method uri : List ℕ) (groups : List Group) → Begins bytes method uri groups []
+      → found ≡ fault 4 (length bytes) → FormOf bytes found
   -- 5: not exactly one From
-  from : (method uri : List ℕ) (groups : List Group) (empty : LineView) (body : List LineView) → Begins bytes method uri groups (empty ∷ body)
-      → empty.text ≡ [] → (place : ℕ) → IsSurplusAt is_from empty.place groups place → found ≡ fault 5 place → FormOf bytes found
+  from : (method uri : List ℕ) (groups : List Group) (empty : LineView) (body : List LineView)
+      → Begins bytes method uri groups (empty ∷ body) → empty.text ≡ [] → (place : ℕ)
+      → IsSurplusAt is_from empty.place groups place → found ≡ fault 5 place → FormOf bytes found
   -- 6: one From, and not exactly one To
-  to : (method uri : List ℕ) (groups : List Group) (empty : LineView) (body : List LineView) → Begins bytes method uri groups (empty ∷ body)
-      → empty.text ≡ [] → HasOne is_from groups → (place : ℕ) → IsSurplusAt is_to empty.place groups place → found ≡ fault 6 place → FormOf bytes found
+  to : (method uri : List ℕ) (groups : List Group) (empty : LineView) (body : List LineView)
+      → Begins bytes method uri groups (empty ∷ body) → empty.text ≡ [] → HasOne is_from groups → (place : ℕ)
+      → IsSurplusAt is_to empty.place groups place → found ≡ fault 6 place → FormOf bytes found

@@ -28,7 +28,8 @@ lines_of_groups (group ∷ others) = group.first ∷ (group.continued ++ lines_o
 
 -- the field of a group: its name and its joined value
 abbrev pub field_of : Group → FieldView
-field_of group = record { name = group.name; value = value_of group.rest (map (λ (line : LineView). line.text) group.continued) }
+field_of group =
+    record { name = group.name; value = value_of group.rest (map (λ (line : LineView). line.text) group.continued) }
 
 -- the bytes are at most 65,535, and their lines are a start line, these groups and what is left
 pub record Begins (bytes method uri : List ℕ) (groups : List Group) (left : List LineView) : Type 0 where

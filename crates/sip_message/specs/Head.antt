@@ -9,8 +9,8 @@ use Rattle.sip_message.specs.Names.{is_from, is_to}
 abbrev pub HasOne : (List ℕ → Bool) → List Group → Type 0
 HasOne test groups = length (filter (λ (group : Group). test group.name) groups) ≡ 1
 
--- the bytes are a start line, groups of a field line and its continuations, an empty line and a body; exactly one group is named
--- From and exactly one To
+-- the bytes are a start line, groups of a field line and its continuations, an empty line and a body; exactly one group
+-- is named From and exactly one To
 pub record Head (bytes : List ℕ) (message : MessageView) : Type 0 where
   pub groups : List Group
   pub empty : LineView

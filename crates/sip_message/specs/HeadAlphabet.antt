@@ -1,4 +1,5 @@
--- Which bytes the parts of a message head may have (RFC 3261, section 25.1; what a URI may hold is this project's own leniency).
+-- Which bytes the parts of a message head may have (RFC 3261, section 25.1; what a URI may hold is this project's own
+-- leniency).
 use Rattle.std.specs.Prelude.{ℕ, Bool, ◌==◌, nat_lt, ◌&&◌, not, List}
 use Rattle.std.specs.List.{list_all}
 use Rattle.text_grammar.specs.Bytes.{is_empty, is_name_byte}

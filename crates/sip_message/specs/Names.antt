@@ -1,5 +1,5 @@
--- The names of the header fields that have a meaning here, compared without case (RFC 3261, sections 7.3.1 and 7.3.3; RFC 8224,
--- section 4; RFC 3325, section 9.1).
+-- The names of the header fields that have a meaning here, compared without case (RFC 3261, sections 7.3.1 and 7.3.3;
+-- RFC 8224, section 4; RFC 3325, section 9.1).
 use Rattle.std.specs.Prelude.{ℕ, Bool, ◌||◌, List, codes}
 use Rattle.std.specs.Str.{str_eq_ignore_ascii_case}
 

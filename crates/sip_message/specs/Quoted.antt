@@ -1,5 +1,5 @@
--- A value with quoted strings in pieces (RFC 3261, section 25.1, `quoted-string`; that any byte may be in one is this project's own
--- leniency), and the address in it.
+-- A value with quoted strings in pieces (RFC 3261, section 25.1, `quoted-string`; that any byte may be in one is this
+-- project's own leniency), and the address in it.
 use Rattle.std.specs.Prelude.{◌≡◌, ℕ, Bool, true, not, ◌==◌, ◌||◌, List, [], ◌∷◌, ◌++◌}
 use Rattle.std.specs.List.{list_all}
 use Rattle.sip_message.specs.UpTo.{UpTo}
@@ -48,7 +48,8 @@ ends_address byte = byte == 59 || byte == 44 || byte == 32 || byte == 9
 abbrev pub closes_bracket : ℕ → Bool
 closes_bracket byte = byte == 62
 
--- the URI of the first address of a value: in brackets up to the next `>`; without them up to the first `;`, `,`, space or tab
+-- the URI of the first address of a value: in brackets up to the next `>`; without them up to the first `;`, `,`, space
+-- or tab
 pub data IsAddress (value uri : List ℕ) : Type 0 where
   in_brackets : (rest : List ℕ) → IsBracketed value rest → UpTo closes_bracket rest uri → IsAddress value uri
   without : ((rest : List ℕ) → IsBracketed value rest → ⊥) → UpTo ends_address value uri → IsAddress value uri

@@ -1,5 +1,7 @@
--- A message head read line by line, with its first fault. That this is what `Head` and `FormOf` say of the bytes is shown by laws.
-use Rattle.std.specs.Prelude.{ℕ, Bool, true, false, ◌&&◌, nat_le, List, [], ◌∷◌, ◌++◌, length, map, filter, Option, Some, None, Result, Ok, Err, if◌then◌else◌}
+-- A message head read line by line, with its first fault. That this is what `Head` and `FormOf` say of the bytes is
+-- shown by laws.
+use Rattle.std.specs.Prelude.{ℕ, Bool, true, false, ◌&&◌, nat_le, List, [], ◌∷◌, ◌++◌, length, map, filter, Option}
+use Rattle.std.specs.Prelude.{Some, None, Result, Ok, Err, if◌then◌else◌}
 use Rattle.std.specs.Option.{option_map}
 use Rattle.sip_message.specs.declared.fault.FormFault.{FormFault}
 use Rattle.sip_message.specs.FieldLine.{field_line}
@@ -32,16 +34,18 @@ or_fault e next (Some x) = next x
 
 -- the field that begins with the line and goes on over the continuations
 abbrev pub field_at : LineView → List (List ℕ) → Option PlacedField
-field_at line continued =
-    option_map (λ (parts : List ℕ × List ℕ). record { place = line.place; field = record { name = parts.0; value = value_of parts.1 continued } }) (field_line line.text)
+field_at line continued = option_map (λ (parts : List ℕ × List ℕ).
+    record { place = line.place; field = record { name = parts.0; value = value_of parts.1 continued } })
+    (field_line line.text)
 
--- the fields so far with those of the lines up to the first empty one; `inside` after a field line or a continuation of it
+-- the fields so far with those of the lines up to the first empty one; `inside` after a field line or a continuation of
+-- it
 abbrev pub fields_after : ℕ → Bool → List PlacedField → List LineView → Result HeadView FormFault
 fields_after size inside fields [] = Err (fault 4 size)
-fields_after size inside fields (line ∷ others) =
-    if is_empty line.text then Ok (record { fields = fields; end = line.place })
-    else (if inside && is_continuation line.text then fields_after size true fields others
-    else or_fault (fault 3 line.place) (λ field. fields_after size true (fields ++ field ∷ []) others) (field_at line (continuations others)))
+fields_after size inside fields (line ∷ others) = if is_empty line.text
+    then Ok (record { fields = fields; end = line.place }) else (if inside && is_continuation line.text
+    then fields_after size true fields others else or_fault (fault 3 line.place)
+    (λ field. fields_after size true (fields ++ field ∷ []) others) (field_at line (continuations others)))
 
 -- ---- From and To
 
@@ -72,15 +76,18 @@ unless_surplus kind (Some place) result = Err (fault kind place)
 -- ---- the message
 
 abbrev pub message : List ℕ × List ℕ → HeadView → MessageView
-message start head = record { method = start.0; uri = start.1; fields = map (λ (placed : PlacedField). placed.field) head.fields }
+message start head =
+    record { method = start.0; uri = start.1; fields = map (λ (placed : PlacedField). placed.field) head.fields }
 
 abbrev pub checked : List ℕ × List ℕ → Result HeadView FormFault → Result MessageView FormFault
 checked start (Err e) = Err e
-checked start (Ok head) = unless_surplus 5 (surplus is_from head) (unless_surplus 6 (surplus is_to head) (Ok (message start head)))
+checked start (Ok head) =
+    unless_surplus 5 (surplus is_from head) (unless_surplus 6 (surplus is_to head) (Ok (message start head)))
 
 abbrev pub read_lines : ℕ → List LineView → Result MessageView FormFault
 read_lines size [] = Err (fault 4 size)
-read_lines size (first ∷ others) = or_fault (fault 2 0) (λ start. checked start (fields_after size false [] others)) (start_line first.text)
+read_lines size (first ∷ others) =
+    or_fault (fault 2 0) (λ start. checked start (fields_after size false [] others)) (start_line first.text)
 
 -- the message that the bytes begin with, or the first fault
 unfoldable pub read : List ℕ → Result MessageView FormFault

@@ -1,5 +1,7 @@
--- The start line of a request (RFC 3261, section 7.1; that the version is compared without case is this project's own leniency).
-use Rattle.std.specs.Prelude.{◌≡◌, ℕ, Bool, true, ◌&&◌, List, ◌∷◌, ◌++◌, Option, Some, None, codes, option_and_then, if◌then◌else◌}
+-- The start line of a request (RFC 3261, section 7.1; that the version is compared without case is this project's own
+-- leniency).
+use Rattle.std.specs.Prelude.{◌≡◌, ℕ, Bool, true, ◌&&◌, List, ◌∷◌, ◌++◌, Option, Some, None, codes, option_and_then}
+use Rattle.std.specs.Prelude.{if◌then◌else◌}
 use Rattle.std.specs.Str.{str_eq_ignore_ascii_case}
 use Rattle.text_grammar.specs.Cut.{cut}
 use Rattle.sip_message.specs.HeadAlphabet.{is_name, is_target}
@@ -18,7 +20,8 @@ pub record IsStartLine (line method uri : List ℕ) : Type 0 where
 -- ---- the method and the URI of a line, cut at its first two spaces
 
 abbrev pub target_of : List ℕ → List ℕ × List ℕ → Option (List ℕ × List ℕ)
-target_of method parts = if is_name method && is_target parts.0 && is_version parts.1 then Some (method, parts.0) else None
+target_of method parts =
+    if is_name method && is_target parts.0 && is_version parts.1 then Some (method, parts.0) else None
 
 abbrev pub method_of : List ℕ × List ℕ → Option (List ℕ × List ℕ)
 method_of parts = option_and_then (target_of parts.0) (cut 32 parts.1)

@@ -1,4 +1,5 @@
--- A message with another request URI (RFC 3261, section 7.1: the URI is between the first two spaces of the start line).
+-- A message with another request URI (RFC 3261, section 7.1: the URI is between the first two spaces of the start
+-- line).
 use Rattle.std.specs.Prelude.{◌≡◌, ◌≤◌, ℕ, true, length, List, [], ◌∷◌, ◌++◌, Option, Some, None, Result}
 use Rattle.text_grammar.specs.Cut.{cut, lacks}
 use Rattle.sip_message.specs.declared.fault.FormFault.{FormFault}
@@ -30,7 +31,8 @@ to_uri message uri = record { method = message.method; uri = uri; fields = messa
 unfoldable pub targeted : List ℕ → List ℕ → Result (List ℕ) FormFault
 targeted bytes uri = sized_or_fault (read bytes) (with_uri bytes uri)
 
--- the first two spaces of the bytes have the old URI between them, and those of what was written have this one; all else is the same
+-- the first two spaces of the bytes have the old URI between them, and those of what was written have this one; all
+-- else is the same
 pub record HasOtherUri (bytes uri out : List ℕ) : Type 0 where
   pub method : List ℕ
   pub old : List ℕ
@@ -42,5 +44,5 @@ pub record HasOtherUri (bytes uri out : List ℕ) : Type 0 where
 
 -- bytes that are a message are one with another request URI too, and the message is the same but for it
 abbrev pub TargetLaw : Type 0
-TargetLaw = (bytes uri : List ℕ) (message : MessageView) → is_target uri ≡ true → length (with_uri bytes uri) ≤ 65535 → Head bytes message
-    → Head (with_uri bytes uri) (to_uri message uri)
+TargetLaw = (bytes uri : List ℕ) (message : MessageView) → is_target uri ≡ true → length (with_uri bytes uri) ≤ 65535
+    → Head bytes message → Head (with_uri bytes uri) (to_uri message uri)

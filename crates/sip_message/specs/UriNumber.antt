@@ -1,5 +1,5 @@
--- The telephone number that a URI gives (RFC 3966, section 3; RFC 3261, section 19.1.6; which part is the number's text is this
--- project's own rule).
+-- The telephone number that a URI gives (RFC 3966, section 3; RFC 3261, section 19.1.6; which part is the number's text
+-- is this project's own rule).
 use Rattle.std.specs.Prelude.{◌≡◌, ℕ, Bool, true, ◌==◌, ◌||◌, List, ◌∷◌, ◌++◌, codes}
 use Rattle.std.specs.Str.{str_eq_ignore_ascii_case}
 use Rattle.text_grammar.specs.Cut.{lacks}

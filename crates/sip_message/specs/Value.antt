@@ -1,5 +1,5 @@
--- The value of a header field from the rest of its line and its continuations (RFC 3261, section 7.3.1; that empty parts are
--- dropped is this project's own leniency).
+-- The value of a header field from the rest of its line and its continuations (RFC 3261, section 7.3.1; that empty
+-- parts are dropped is this project's own leniency).
 use Rattle.std.specs.Prelude.{ℕ, not, List, [], ◌∷◌, ◌++◌, map, reverse, filter, if◌then◌else◌}
 use Rattle.text_grammar.specs.Bytes.{is_blank, is_empty}
 

@@ -15,16 +15,16 @@ use crate::text::MessageText;
 use crate::value::trimmed;
 use std::alloc::{AllocError, Global};
 
-/// Whether a header field of this name may be added to a message: it is a field name (RFC 3261, section 25.1) other than From and To and
-/// their short forms, of which a message has exactly one each.
+/// Whether a header field of this name may be added to a message: it is a field name (RFC 3261, section 25.1) other
+/// than From and To and their short forms, of which a message has exactly one each.
 pub fn is_addable(name: &[u8]) -> bool
     ensures { result ≡ is_addable name.now }
 {
     is_name(name) && !(Known::From.is_named(name) || Known::To.is_named(name))
 }
 
-/// Whether a text can be the value of a header field in one line as it is: it isn't empty, has no space or tab at either end, and
-/// neither CR nor LF in it.
+/// Whether a text can be the value of a header field in one line as it is: it isn't empty, has no space or tab at
+/// either end, and neither CR nor LF in it.
 pub fn is_field_value(value: &[u8]) -> bool
     ensures { result ≡ is_field_value value.now }
 {
@@ -41,11 +41,12 @@ fn lacks(text: &[u8], byte: u8) -> bool
     text.iter().all(|other| *other != byte)
 }
 
-/// The bytes of a message with one more header field: its name, a colon, a space, its value, CR and LF come directly before the empty
-/// line that ends the head (RFC 3261, section 7.5). Reading them gives the same message with this field as the last.
+/// The bytes of a message with one more header field: its name, a colon, a space, its value, CR and LF come directly
+/// before the empty line that ends the head (RFC 3261, section 7.5). Reading them gives the same message with this
+/// field as the last.
 ///
-/// If the bytes are no message, the fault is theirs. Else it is 1, the size, if they would be more than 65,535 with the field. `Memory`
-/// comes only if memory runs out. [`is_addable`] tells of the name and [`is_field_value`] of the value.
+/// If the bytes are no message, the fault is theirs. Else it is 1, the size, if they would be more than 65,535 with the
+/// field. `Memory` comes only if memory runs out. [`is_addable`] tells of the name and [`is_field_value`] of the value.
 pub fn with_field(
     alloc: Global,
     bytes: &[u8],
@@ -61,8 +62,10 @@ pub fn with_field(
         → IfOk result (λ out. out.items ≡ with_line_at head.empty.place bytes.now name.now value.now) }
 
     // What comes out is the message with the field after all others, and is read as this.
-    ensures head { (message : MessageView) → Head bytes.now message → IfOk result (λ out. Head out.items (with_last message name.now value.now)) }
-    ensures read_again { (message : MessageView) → read bytes.now ≡ Ok message → IfOk result (λ out. read out.items ≡ Ok (with_last message name.now value.now)) }
+    ensures head { (message : MessageView) → Head bytes.now message
+        → IfOk result (λ out. Head out.items (with_last message name.now value.now)) }
+    ensures read_again { (message : MessageView) → read bytes.now ≡ Ok message
+        → IfOk result (λ out. read out.items ≡ Ok (with_last message name.now value.now)) }
 {
     with_field_exactly(alloc, bytes, name, value)
 }

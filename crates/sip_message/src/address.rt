@@ -1,7 +1,8 @@
 //! The telephone number of an address or a URI.
 ghost use Rattle.std.specs.Prelude.{◌≡◌};
 ghost use Rattle.std.specs.Option.{option_copied};
-ghost use Rattle.sip_message.specs.Address.{address, address_number, before, uri_number, behind_bracket, behind_scheme, user_number};
+ghost use Rattle.sip_message.specs.Address.{address, address_number, before, uri_number, behind_bracket, behind_scheme};
+ghost use Rattle.sip_message.specs.Address.{user_number};
 ghost use Rattle.sip_message.specs.Quoting.{after, bracket_from};
 ghost use Rattle.sip_message.specs.declared.address.Quoting.TheVariants.{Outside};
 

@@ -62,7 +62,8 @@ fn read_field<'a>(
     line: Line<'a>,
     lines: &mut Lines<'a>,
 ) -> Result<Field<'a>, MessageFault>
-    ensures field { GivesOr placed_seen (fault 3 line.entry.place) result (field_at (line_seen line.entry) (continuations lines.old)) }
+    ensures field { GivesOr placed_seen (fault 3 line.entry.place) result
+        (field_at (line_seen line.entry) (continuations lines.old)) }
     ensures left { OnOk result (lines.new ≡ behind_continuations lines.old) }
 {
     let Some((name, rest)) = field_line(line.text) else {

@@ -14,7 +14,8 @@ pub(crate) enum Known {
 }
 
 impl Known {
-    /// The one of this name, None if a field of this name has no meaning here. A name is compared only with those of its length.
+    /// The one of this name, None if a field of this name has no meaning here. A name is compared only with those of
+    /// its length.
     #[tactic(auto, using(crate::proofs::LengthLaws::of_one, crate::proofs::LengthLaws::of_two, crate::proofs::LengthLaws::of_four, crate::proofs::LengthLaws::of_eight, crate::proofs::LengthLaws::of_nineteen, crate::proofs::LengthLaws::of_another))]
     pub(crate) fn of(name: &[u8]) -> Option<Known>
         ensures { result ≡ kind_of name.now }

@@ -16,15 +16,17 @@ pub fn head_law()
     ensures { (bytes : List ℕ) (message : MessageView) → (read bytes ≡ Ok message) ↔ Head bytes message }
 {}
 
-/// What is asked of a message with one more header field after its own. An Identity field has its value after the others. All else that
-/// is asked stays as it was if the name is none of those that it is asked of.
+/// What is asked of a message with one more header field after its own. An Identity field has its value after the
+/// others. All else that is asked stays as it was if the name is none of those that it is asked of.
 pub fn added_field_law()
     ensures identity { (message : MessageView) (name value : List ℕ) → is_identity name ≡ true
         → identities (with_last message name value) ≡ identities message ++ value ∷ [] }
-    ensures invite { (message : MessageView) (name value : List ℕ) → is_invite (with_last message name value) ≡ is_invite message }
-    ensures date { (message : MessageView) (name value : List ℕ) → is_date name ≡ false → date (with_last message name value) ≡ date message }
-    ensures calling { (message : MessageView) (name value : List ℕ) (local : LocalView) → is_asserted name ≡ false → is_from name ≡ false
-        → calling_number (with_last message name value) local ≡ calling_number message local }
+    ensures invite { (message : MessageView) (name value : List ℕ)
+        → is_invite (with_last message name value) ≡ is_invite message }
+    ensures date { (message : MessageView) (name value : List ℕ) → is_date name ≡ false
+        → date (with_last message name value) ≡ date message }
+    ensures calling { (message : MessageView) (name value : List ℕ) (local : LocalView) → is_asserted name ≡ false
+        → is_from name ≡ false → calling_number (with_last message name value) local ≡ calling_number message local }
     ensures to { (message : MessageView) (name value : List ℕ) (local : LocalView) → is_to name ≡ false
         → to_number (with_last message name value) local ≡ to_number message local }
     ensures target { (message : MessageView) (name value : List ℕ) (local : LocalView)

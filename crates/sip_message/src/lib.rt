@@ -1,19 +1,21 @@
-//! The head of a SIP message (RFC 3261, section 7): its start line and its header fields, and what they say of telephone numbers.
+//! The head of a SIP message (RFC 3261, section 7): its start line and its header fields, and what they say of
+//! telephone numbers.
 //!
 //! # The way through
 //!
-//! [`Message::read`] takes the bytes of a message of at most [`MOST_BYTES`]. What it gives is a view into them, and is asked:
+//! [`Message::read`] takes the bytes of a message of at most [`MOST_BYTES`]. What it gives is a view into them, and is
+//! asked:
 //!
 //! - [`Message::is_invite`];
-//! - the numbers: [`Message::from_number`], [`Message::to_number`], [`Message::target_number`] (the request URI), [`Message::asserted_number`] (RFC
-//!   3325) and [`Message::calling_number`], which is the asserted one or else From's;
+//! - the numbers: [`Message::from_number`], [`Message::to_number`], [`Message::target_number`] (the request URI),
+//!   [`Message::asserted_number`] (RFC 3325) and [`Message::calling_number`], which is the asserted one or else From's;
 //! - [`Message::date`], in Unix seconds;
 //! - the Identity header fields, as values: [`Message::identity_count`] and [`Message::identity`];
 //! - any header field by its name: [`Message::field_value`].
 //!
-//! [`with_field`] goes the other way: it puts one more header field into the bytes of a message, if [`is_addable`] and [`is_field_value`] allow it.
-//! A [`MessageText`] keeps the bytes beside the message, for one that is asked and then given a field. [`with_target`] puts another request URI into the
-//! bytes, if [`is_target`] allows it; [`uri_number`]
+//! [`with_field`] goes the other way: it puts one more header field into the bytes of a message, if [`is_addable`] and
+//! [`is_field_value`] allow it. A [`MessageText`] keeps the bytes beside the message, for one that is asked and then
+//! given a field. [`with_target`] puts another request URI into the bytes, if [`is_target`] allows it; [`uri_number`]
 //! gives that URI's number.
 //!
 //! ```rust
@@ -24,18 +26,20 @@
 //!
 //! # What it isn't
 //!
-//! No parser of whole SIP: bodies aren't read, header fields other than those above are only split off, and a URI is taken apart as far as its
-//! number. An Identity value is read by `identity_header`.
+//! No parser of whole SIP: bodies aren't read, header fields other than those above are only split off, and a URI is
+//! taken apart as far as its number. An Identity value is read by `identity_header`.
 //!
 //! # What is proved
 //!
-//! A message is read just if the bytes are one, the first fault and its offset are said both ways, and each number is the one that the grammar of
-//! addresses and URIs gives. A field that was put in is read back as the last, and with another request URI all else is read as before. `docs/dev/PROVED.md`,
-//! "Messages and PASSporTs", has the clauses, and [`head_law`], [`added_field_law`] and [`target_law`] are the laws for the crates above.
+//! A message is read just if the bytes are one, the first fault and its offset are said both ways, and each number is
+//! the one that the grammar of addresses and URIs gives. A field that was put in is read back as the last, and with
+//! another request URI all else is read as before. `docs/dev/PROVED.md`, "Messages and PASSporTs", has the clauses, and
+//! [`head_law`], [`added_field_law`] and [`target_law`] are the laws for the crates above.
 //!
 //! # Cases
 //!
-//! Section `messages` of `crates/vectors/stdin`, and `signing.with_field` there; `tests/cli/retarget.rows` for another request URI.
+//! Section `messages` of `crates/vectors/stdin`, and `signing.with_field` there; `tests/cli/retarget.rows` for another
+//! request URI.
 #![tactic(auto)]
 
 mod added;

@@ -10,7 +10,8 @@ ghost use Rattle.sip_message.specs.Form.{FormOf};
 ghost use Rattle.sip_message.specs.Head.{Head};
 ghost use Rattle.sip_message.specs.Message.{MessageView};
 ghost use Rattle.sip_message.specs.Names.{is_asserted, is_date, is_from, is_to};
-ghost use Rattle.sip_message.specs.Accessors.{asserted_number, calling_number, date, from_number, identities, is_invite, target_number, to_number};
+ghost use Rattle.sip_message.specs.Accessors.{asserted_number, calling_number, date, from_number, identities};
+ghost use Rattle.sip_message.specs.Accessors.{is_invite, target_number, to_number};
 ghost use Rattle.sip_message.specs.Reading.{checked, fault, read};
 ghost use Rattle.sip_message.specs.Seen.{Gives, IsOkUnlessMemory, head_seen, parts_seen};
 ghost use Rattle.sip_message.specs.Short.{AreShort};
@@ -47,8 +48,8 @@ const TO: u8 = 6;
 
 /// The head of a SIP request (RFC 3261, section 7): its method, its URI and its header fields in their order.
 ///
-/// A value in one line is a view into the bytes that were read; one of several lines is joined. A contract sees method, URI and the list of
-/// names and values. No value is longer than 65,535 bytes.
+/// A value in one line is a view into the bytes that were read; one of several lines is joined. A contract sees method,
+/// URI and the list of names and values. No value is longer than 65,535 bytes.
 #[derive(Drop)]
 pub struct Message<'a> {
     method: &'a [u8],
@@ -56,7 +57,8 @@ pub struct Message<'a> {
     fields: Vec<Field<'a>>,
 }
 
-/// Method, URI and header fields as they are read, before it is known how long the values are, and the offset of the empty line that ends the head.
+/// Method, URI and header fields as they are read, before it is known how long the values are, and the offset of the
+/// empty line that ends the head.
 #[derive(Drop)]
 pub(crate) struct Parts<'a> {
     pub method: &'a [u8],
@@ -80,17 +82,18 @@ impl<'a> Model for Message<'a> {
 }
 
 impl<'a> Message<'a> {
-    /// Reads the head of a message of at most 65,535 bytes: its start line, its header fields with their continuations, and the empty line.
-    /// The body after that isn't read.
+    /// Reads the head of a message of at most 65,535 bytes: its start line, its header fields with their continuations,
+    /// and the empty line. The body after that isn't read.
     ///
-    /// The faults are tried in this order: 1 the size, at 65,535; the first bad line, which is 2 for the start line, at 0, or 3, at its
-    /// first byte; 4 no empty line, at the length; 5 and 6 if there isn't exactly one From or To, at the second such field or else at the
-    /// empty line. `Memory` comes only if memory runs out.
+    /// The faults are tried in this order: 1 the size, at 65,535; the first bad line, which is 2 for the start line, at
+    /// 0, or 3, at its first byte; 4 no empty line, at the length; 5 and 6 if there isn't exactly one From or To, at
+    /// the second such field or else at the empty line. `Memory` comes only if memory runs out.
     #[tactic(auto, using(crate::proofs::AnswerLaws::answers_head, crate::proofs::AnswerLaws::answers_fault, crate::proofs::AnswerLaws::answers_only_fault, crate::proofs::AnswerLaws::answers_place, crate::proofs::ShortLaws::answers_short))]
     pub fn read(alloc: Global, bytes: &'a [u8]) -> Result<Message<'a>, MessageFault>
         ensures exact { Gives (λ message. message) result (read bytes.now) }
         ensures head { IfOk result (λ message. Head bytes.now message) }
-        ensures only { (message : MessageView) → Head bytes.now message → IsOkUnlessMemory result (λ found. found ≡ message) }
+        ensures only { (message : MessageView) → Head bytes.now message
+            → IsOkUnlessMemory result (λ found. found ≡ message) }
         ensures fault { IfForm result (λ fault. FormOf bytes.now fault) }
         ensures only_fault { (fault : FormFault) → FormOf bytes.now fault → IsFault result fault }
         ensures place { IfForm result (λ fault. fault.place ≤ length bytes.now) }
@@ -106,7 +109,8 @@ impl<'a> Message<'a> {
         self.method == b"INVITE".as_slice()
     }
 
-    /// The number of From (RFC 3261, section 20.20): that of the first address in the value of the first such field, None if it has none.
+    /// The number of From (RFC 3261, section 20.20): that of the first address in the value of the first such field,
+    /// None if it has none.
     pub fn from_number(&self, local: &Local) -> Option<Number>
         ensures exact { result ≡ from_number self.now local.now }
         ensures found { IfSome result (λ number. IsNumberOf is_from self.now.fields local.now number) }
@@ -115,7 +119,8 @@ impl<'a> Message<'a> {
         number_of(&self.fields, Known::From, local)
     }
 
-    /// The number of To (RFC 3261, section 20.39): that of the first address in the value of the first such field, None if it has none.
+    /// The number of To (RFC 3261, section 20.39): that of the first address in the value of the first such field, None
+    /// if it has none.
     pub fn to_number(&self, local: &Local) -> Option<Number>
         ensures exact { result ≡ to_number self.now local.now }
         ensures found { IfSome result (λ number. IsNumberOf is_to self.now.fields local.now number) }
@@ -137,7 +142,8 @@ impl<'a> Message<'a> {
     pub fn asserted_number(&self, local: &Local) -> Option<Number>
         ensures exact { result ≡ asserted_number self.now local.now }
         ensures found { IfSome result (λ number. IsFirstNumber is_asserted self.now.fields local.now number) }
-        ensures only { (number : List ℕ) → IsFirstNumber is_asserted self.now.fields local.now number → result ≡ Some number }
+        ensures only { (number : List ℕ) → IsFirstNumber is_asserted self.now.fields local.now number
+            → result ≡ Some number }
     {
         first_number(&self.fields, Known::Asserted, local)
     }
@@ -161,8 +167,8 @@ impl<'a> Message<'a> {
         }
     }
 
-    /// The time of the first Date field (RFC 3261, section 20.17), in Unix seconds; None if there is no such field or its value is no date
-    /// in one of the three forms of HTTP (RFC 9110, section 5.6.7).
+    /// The time of the first Date field (RFC 3261, section 20.17), in Unix seconds; None if there is no such field or
+    /// its value is no date in one of the three forms of HTTP (RFC 9110, section 5.6.7).
     pub fn date(&self) -> Option<u64>
         ensures exact { result ≡ date self.now }
         ensures found { IfSome result (λ second. IsTimeOf is_date self.now.fields second) }
@@ -178,7 +184,8 @@ impl<'a> Message<'a> {
         count(&self.fields, Known::Identity)
     }
 
-    /// The value of Identity field `i` in message order, counted from 0, at most 65,535 bytes. Each call goes over the fields.
+    /// The value of Identity field `i` in message order, counted from 0, at most 65,535 bytes. Each call goes over the
+    /// fields.
     pub fn identity(&self, i: usize) -> &[u8]
         requires { i < length (identities self.now) }
         ensures value { result.now ≡ slice_index_or (identities self.now) i [] }
@@ -187,14 +194,16 @@ impl<'a> Message<'a> {
         value_at(&self.fields, Known::Identity, i)
     }
 
-    /// The value of the header field `i` of this name in message order, counted from 0, at most 65,535 bytes; None if there are no more.
+    /// The value of the header field `i` of this name in message order, counted from 0, at most 65,535 bytes; None if
+    /// there are no more.
     ///
-    /// Names are compared without case (RFC 3261, section 7.3.1), and a compact form is its long name (RFC 3261, section 7.3.3; RFC 8224,
-    /// section 4, for Identity). Each call goes over the fields.
+    /// Names are compared without case (RFC 3261, section 7.3.1), and a compact form is its long name (RFC 3261,
+    /// section 7.3.3; RFC 8224, section 4, for Identity). Each call goes over the fields.
     pub fn field_value(&self, name: &[u8], i: usize) -> Option<&[u8]>
         ensures exact { option_copied result ≡ field_value self.now name.now i }
         ensures found { IfSome result (λ value. IsFieldValue name.now self.now.fields i value.now) }
-        ensures only { (value : List ℕ) → IsFieldValue name.now self.now.fields i value → option_copied result ≡ Some value }
+        ensures only { (value : List ℕ) → IsFieldValue name.now self.now.fields i value
+            → option_copied result ≡ Some value }
         ensures short { IfSome result (λ value. length value.now ≤ 65535) }
     {
         value_named(&self.fields, name, i)

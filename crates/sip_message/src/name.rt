@@ -6,7 +6,8 @@ ghost use Rattle.sip_message.specs.Known.{is_named};
 use crate::known::Known;
 use std::marker::Model;
 
-/// The name of a header field, with what it means here: that is found out once, when the field is read. A contract sees the text alone.
+/// The name of a header field, with what it means here: that is found out once, when the field is read. A contract sees
+/// the text alone.
 #[derive(Debug, Drop)]
 pub(crate) struct Name<'a> {
     text: &'a [u8],
@@ -51,7 +52,8 @@ impl<'a> Name<'a> {
     }
 }
 
-/// Whether two names are one field's: they differ in the case of letters alone, or one is the compact form of the other.
+/// Whether two names are one field's: they differ in the case of letters alone, or one is the compact form of the
+/// other.
 fn is_one_field(name: &[u8], other: &[u8]) -> bool
     ensures { result ≡ is_one_field name.now other.now }
 {

@@ -12,11 +12,11 @@ use crate::message::{MOST_BYTES, Message, SIZE};
 use std::alloc::{AllocError, Global};
 use text_grammar::cut;
 
-/// The bytes of a message with another request URI: between the first two spaces is this URI, and all else is as it was. Reading them
-/// gives the same message with this URI.
+/// The bytes of a message with another request URI: between the first two spaces is this URI, and all else is as it
+/// was. Reading them gives the same message with this URI.
 ///
-/// If the bytes are no message, the fault is theirs. Else it is 1, the size, if they would be more than 65,535 with this URI. `Memory`
-/// comes only if memory runs out. [`crate::is_target`] tells of the URI.
+/// If the bytes are no message, the fault is theirs. Else it is 1, the size, if they would be more than 65,535 with
+/// this URI. `Memory` comes only if memory runs out. [`crate::is_target`] tells of the URI.
 pub fn with_target(alloc: Global, bytes: &[u8], uri: &[u8]) -> Result<Vec<u8>, MessageFault>
     requires uri { IsTrue (is_target uri.now) }
     ensures exact { Gives (λ out. out.items) result (targeted bytes.now uri.now) }
@@ -25,8 +25,10 @@ pub fn with_target(alloc: Global, bytes: &[u8], uri: &[u8]) -> Result<Vec<u8>, M
     ensures written { IfOk result (λ out. HasOtherUri bytes.now uri.now out.items) }
 
     // What comes out is the message with this URI, and is read as this.
-    ensures head { (message : MessageView) → Head bytes.now message → IfOk result (λ out. Head out.items (to_uri message uri.now)) }
-    ensures read_again { (message : MessageView) → read bytes.now ≡ Ok message → IfOk result (λ out. read out.items ≡ Ok (to_uri message uri.now)) }
+    ensures head { (message : MessageView) → Head bytes.now message
+        → IfOk result (λ out. Head out.items (to_uri message uri.now)) }
+    ensures read_again { (message : MessageView) → read bytes.now ≡ Ok message
+        → IfOk result (λ out. read out.items ≡ Ok (to_uri message uri.now)) }
 {
     with_target_exactly(alloc, bytes, uri)
 }

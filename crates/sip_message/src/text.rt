@@ -72,7 +72,8 @@ impl<'a> MessageText<'a> {
             → IfOk result (λ out. out.items ≡ with_line_at head.empty.place self.now.bytes name.now value.now) }
 
         // What comes out is the message with the field after all others, and is read as this.
-        ensures head { (message : MessageView) → Head self.now.bytes message → IfOk result (λ out. Head out.items (with_last message name.now value.now)) }
+        ensures head { (message : MessageView) → Head self.now.bytes message
+            → IfOk result (λ out. Head out.items (with_last message name.now value.now)) }
         ensures read_again { IfOk result (λ out. read out.items ≡ Ok (with_last self.now.message name.now value.now)) }
     {
         self.with_field_exactly(alloc, name, value)

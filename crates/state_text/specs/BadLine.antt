@@ -1,5 +1,5 @@
--- Which line of a file can't be read (this project's own rule): the first with which no state file goes on, or the line after the last if lines
--- are missing.
+-- Which line of a file can't be read (this project's own rule): the first with which no state file goes on, or the line
+-- after the last if lines are missing.
 use Rattle.std.specs.Prelude.{◌≡◌, ⊤, ◌⊎◌, ℕ, ◌≤◌, ◌+◌, ◌-◌, List, [], ◌∷◌, ◌++◌, length, take}
 use Rattle.state_text.specs.Lines.{ended_lines}
 use Rattle.state_text.specs.State.{IsState, StateView}
@@ -26,7 +26,8 @@ pub record Begins (lines : List (List ℕ)) : Type 0 where
   pub more : List (List ℕ)
   pub split : lines ++ more ≡ before ++ ((head_line ∷ lines_behind state) ++ behind)
 
--- the line of this number, from 1, is the first of the text that can't be read; or it is the one after the last, and lines are missing
+-- the line of this number, from 1, is the first of the text that can't be read; or it is the one after the last, and
+-- lines are missing
 pub record IsBadLine (window : ℕ) (bytes : List ℕ) (line : ℕ) : Type 0 where
   -- the text is no state file
   pub refused : (s : StateView) → StateFile window bytes s → ⊥

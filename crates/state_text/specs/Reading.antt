@@ -1,6 +1,7 @@
--- A state file read line by line: the state, or the number of the first line that can't be read, or of the one after the last if lines are
--- missing.
-use Rattle.std.specs.Prelude.{ℕ, suc, nat_le, Bool, false, ◌&&◌, ◌==◌, List, [], ◌∷◌, ◌++◌, length, slice_get, ◌-◌, codes, Option, Some, None, option_and_then, Result, Ok, Err, if◌then◌else◌}
+-- A state file read line by line: the state, or the number of the first line that can't be read, or of the one after
+-- the last if lines are missing.
+use Rattle.std.specs.Prelude.{ℕ, suc, nat_le, Bool, false, ◌&&◌, ◌==◌, List, [], ◌∷◌, ◌++◌, length, slice_get, ◌-◌}
+use Rattle.std.specs.Prelude.{codes, Option, Some, None, option_and_then, Result, Ok, Err, if◌then◌else◌}
 use Rattle.std.specs.Option.{option_map}
 use Rattle.std.specs.Str.{bytes_eq}
 use Rattle.lists.specs.Steps.{◌>>=◌}
@@ -97,21 +98,25 @@ is_count count (Some number) = number == count
 
 -- an entry of a call up to this number may come after these
 abbrev pub follows : ℕ → List Entry → Entry → Bool
-follows call before entry = nat_le 1 entry.1.call && nat_le entry.1.call call && nat_le entry.1.last most_last && is_above (last_ticket before) entry.0
+follows call before entry = nat_le 1 entry.1.call && nat_le entry.1.call call && nat_le entry.1.last most_last
+    && is_above (last_ticket before) entry.0
 
 -- the line after these entries says how many they are
 abbrev pub ends : List Entry → List ℕ → Bool
 ends before line = is_count (length before) (number_on (codes "end ") 4294967295 line)
 
 -- an entry more, or the end
-abbrev pub entry_or_end : ℕ → List Entry → List ℕ → (List Entry → Result (List Entry) ℕ) → Option Entry → Result (List Entry) ℕ
-entry_or_end number before line next (Some entry) = if is_above (last_ticket before) entry.0 then next (before ++ entry ∷ []) else Err number
+abbrev pub entry_or_end : ℕ → List Entry → List ℕ → (List Entry → Result (List Entry) ℕ)
+    → Option Entry → Result (List Entry) ℕ
+entry_or_end number before line next (Some entry) =
+    if is_above (last_ticket before) entry.0 then next (before ++ entry ∷ []) else Err number
 entry_or_end number before line next None = if ends before line then Ok before else Err number
 
 -- the entries up to the line that says how many they are
 abbrev pub entries_in : ℕ → ℕ → List Entry → List (List ℕ) → Result (List Entry) ℕ
 entries_in most number before [] = Err number
-entries_in most number before (line ∷ others) = entry_or_end number before line (λ entries. entries_in most (suc number) entries others) (kept_on most line)
+entries_in most number before (line ∷ others) =
+    entry_or_end number before line (λ entries. entries_in most (suc number) entries others) (kept_on most line)
 
 -- the state after its first line
 unfoldable pub state_in : ℕ → List (List ℕ) → Result StateView ℕ

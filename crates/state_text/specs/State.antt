@@ -1,5 +1,5 @@
--- What one run hands on to the next (this project's own rule): by what window it judged, the number and the moment of its last call, and which
--- calls passed on which tickets.
+-- What one run hands on to the next (this project's own rule): by what window it judged, the number and the moment of
+-- its last call, and which calls passed on which tickets.
 use Rattle.std.specs.Prelude.{◌≡◌, ⊤, ℕ, ◌<◌, ◌≤◌, Bool, true, List, [], ◌∷◌, length, slice_index, Option, Some, None}
 use Rattle.std.specs.Ordering.{is_lt, nat_cmp}
 use Rattle.std.specs.Cmp.Lexicographic.{slice_cmp}

@@ -16,7 +16,8 @@ number_line name number = name ++ (decimal number ++ 10 ∷ [])
 
 -- the ticket in lower-case hex digits, the call's number and the last second at which its PASSporT is fresh
 abbrev pub kept_line : Entry → List ℕ
-kept_line entry = codes "kept " ++ (encode_lower entry.0 ++ 32 ∷ (decimal entry.1.call ++ 32 ∷ (decimal entry.1.last ++ 10 ∷ [])))
+kept_line entry =
+    codes "kept " ++ (encode_lower entry.0 ++ 32 ∷ (decimal entry.1.call ++ 32 ∷ (decimal entry.1.last ++ 10 ∷ [])))
 
 abbrev pub kept_lines : List Entry → List (List ℕ)
 kept_lines [] = []
@@ -24,8 +25,8 @@ kept_lines (entry ∷ others) = kept_line entry ∷ kept_lines others
 
 -- the lines after the first
 abbrev pub lines_behind : StateView → List (List ℕ)
-lines_behind s = number_line (codes "window ") s.window ∷ number_line (codes "call ") s.call ∷ number_line (codes "moment ") s.moment
-    ∷ (kept_lines s.kept ++ number_line (codes "end ") (length s.kept) ∷ [])
+lines_behind s = number_line (codes "window ") s.window ∷ number_line (codes "call ") s.call
+    ∷ number_line (codes "moment ") s.moment ∷ (kept_lines s.kept ++ number_line (codes "end ") (length s.kept) ∷ [])
 
 -- lines one after another
 abbrev pub text_of : List (List ℕ) → List ℕ
@@ -34,7 +35,8 @@ text_of (line ∷ others) = line ++ text_of others
 
 -- the lines before the entries, as one text
 abbrev pub head_text : ℕ → ℕ → ℕ → List ℕ
-head_text window call moment = head_line ++ (number_line (codes "window ") window ++ (number_line (codes "call ") call ++ number_line (codes "moment ") moment))
+head_text window call moment = head_line ++ (number_line (codes "window ") window
+    ++ (number_line (codes "call ") call ++ number_line (codes "moment ") moment))
 
 -- the text of the state
 unfoldable pub state_text : StateView → List ℕ

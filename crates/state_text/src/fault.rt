@@ -6,8 +6,8 @@ use std::fmt;
 /// Why a text is no state file.
 #[derive(Clone, Copy, Debug, PartialEq, Eq)]
 pub enum StateFault {
-    /// This line is the first that can't be read, or it is the one after the last and lines are missing. Lines count from 1, those before the state
-    /// too.
+    /// This line is the first that can't be read, or it is the one after the last and lines are missing. Lines count
+    /// from 1, those before the state too.
     Line { line: u32 },
     /// Memory ran out.
     Memory,

@@ -5,7 +5,8 @@ ghost use Rattle.state_text.specs.Lines.{ended_lines};
 use std::marker::Model;
 use text_grammar::cut;
 
-/// The lines that are still to be read, each with the LF at its end; the last may lack it. A contract sees them, and the number of the first.
+/// The lines that are still to be read, each with the LF at its end; the last may lack it. A contract sees them, and
+/// the number of the first.
 #[derive(Drop)]
 pub(crate) struct Lines<'a> {
     /// The text that is still to be read.
@@ -61,7 +62,8 @@ impl<'a> Lines<'a> {
 /// The first line of a text with its LF, and what comes after it; None of the empty text.
 #[tactic(auto, using(crate::proofs::LineLaws::first_is, crate::proofs::LineLaws::last_is, crate::proofs::LineLaws::none_is))]
 pub fn first_line(text: &[u8]) -> Option<(&[u8], &[u8])>
-    ensures line { MatchOption result (ended_lines text.now ≡ []) (λ found. ended_lines text.now ≡ found.0.now ∷ ended_lines found.1.now) }
+    ensures line { MatchOption result (ended_lines text.now ≡ [])
+        (λ found. ended_lines text.now ≡ found.0.now ∷ ended_lines found.1.now) }
     ensures shorter { IfSome result (λ found. length found.1.now < length text.now) }
 {
     if text.is_empty() {

@@ -14,7 +14,8 @@ use std::alloc::Global;
 
 /// Goes past the first line that is `past 1`.
 pub(crate) fn find_head(lines: &mut Lines<'_>) -> Result<(), StateFault>
-    ensures { Gives fault_line (λ _. (lines.new.number, lines.new.lines)) result (behind_head lines.old.number lines.old.lines) }
+    ensures { Gives fault_line (λ _. (lines.new.number, lines.new.lines)) result
+        (behind_head lines.old.number lines.old.lines) }
 {
     while let Some(line) = lines.next() {
         if line == b"past 1\n".as_slice() {
@@ -34,7 +35,8 @@ pub(crate) fn find_head(lines: &mut Lines<'_>) -> Result<(), StateFault>
 /// The number on the next line, after this name.
 pub(crate) fn next_number(lines: &mut Lines<'_>, name: &[u8], most: u64) -> Result<u64, StateFault>
     ensures within { IfOk result (λ value. value ≤ most) }
-    ensures exact { Gives fault_line (λ value. (value, lines.new.number, lines.new.lines)) result (next_number name.now most lines.old.number lines.old.lines) }
+    ensures exact { Gives fault_line (λ value. (value, lines.new.number, lines.new.lines)) result
+        (next_number name.now most lines.old.number lines.old.lines) }
 {
     let number = lines.number();
     let Some(line) = lines.next() else {

@@ -1,6 +1,7 @@
 //! What a line of a state says.
 ghost use Rattle.std.specs.Prelude.{◌≡◌, ◌≤◌, IfSome};
-ghost use Rattle.state_text.specs.Reading.{call_number, call_on, ended_number, kept_on, number_on, ticket_of, written_when};
+ghost use Rattle.state_text.specs.Reading.{call_number, call_on, ended_number, kept_on, number_on, ticket_of};
+ghost use Rattle.state_text.specs.Reading.{written_when};
 
 use crate::entries::MOST_LAST;
 use crate::kept::Kept;

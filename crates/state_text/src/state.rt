@@ -1,5 +1,6 @@
 //! What one run hands on to the next.
-ghost use Rattle.std.specs.Prelude.{◌≡◌, ◌↔◌, ◌≤◌, ◌<◌, ◌^◌, ◌-◌, ℕ, List, length, IfOk, IfErr, IfSome, IsSome, None, Ok, Err};
+ghost use Rattle.std.specs.Prelude.{◌≡◌, ◌↔◌, ◌≤◌, ◌<◌, ◌^◌, ◌-◌, ℕ, List, length, IfOk, IfErr, IfSome, IsSome, None};
+ghost use Rattle.std.specs.Prelude.{Ok, Err};
 ghost use Rattle.lists.specs.Given.{Gives};
 ghost use Rattle.state_text.specs.BadLine.{IsBadLine};
 ghost use Rattle.state_text.specs.Reading.{read_state, state_in};
@@ -24,7 +25,8 @@ const MOST_WINDOW: u64 = 86_400;
 /// The greatest number of a last call that a text may have.
 const MOST_CALL: u64 = 4_000_000_000;
 
-/// What one run hands on to the next: by what window it judged, the number and the moment of its last call, and which calls passed on which tickets.
+/// What one run hands on to the next: by what window it judged, the number and the moment of its last call, and which
+/// calls passed on which tickets.
 #[derive(Drop)]
 pub struct State {
     /// How many seconds after its `iat` a PASSporT is fresh.
@@ -46,12 +48,13 @@ impl Model for State {
 
     ghost view = { λ s. record { window = s.window; call = s.call; moment = s.moment; kept = s.kept.items } };
 
-    ghost invariant = { λ s. IsState (record { window = s.window; call = s.call; moment = s.moment; kept = s.kept.items }) };
+    ghost invariant = { λ s.
+        IsState (record { window = s.window; call = s.call; moment = s.moment; kept = s.kept.items }) };
 }
 
 impl State {
-    /// Reads a state file. An empty one means a state with this window, of at most a day in seconds, in which no call came and nothing is
-    /// kept.
+    /// Reads a state file. An empty one means a state with this window, of at most a day in seconds, in which no call
+    /// came and nothing is kept.
     ///
     /// `Line` names the first line that can't be read, or the line after the last if lines are missing.
     #[tactic(auto, using(crate::proofs::AnswerLaws::found_by, crate::proofs::AnswerLaws::only_by, crate::proofs::AnswerLaws::refused_by, crate::proofs::AnswerLaws::first_by))]
@@ -60,24 +63,31 @@ impl State {
         requires window { window ≤ 86400 }
         // the state that the file holds, and a file that holds one is read
         ensures found { IfOk result (λ state. StateFile window text.now state) }
-        ensures only { (state : StateView) → StateFile window text.now state → Gives fault_line (λ state. state) result (Ok state) }
+        ensures only { (state : StateView) → StateFile window text.now state
+            → Gives fault_line (λ state. state) result (Ok state) }
         // the bad line, and a file that has one is refused
         ensures refused { IfErr result (λ fault. IfLine fault (IsBadLine window text.now)) }
-        ensures first { (line : ℕ) → IsBadLine window text.now line → Gives fault_line (λ state. state) result (Err line) }
+        ensures first { (line : ℕ) → IsBadLine window text.now line
+            → Gives fault_line (λ state. state) result (Err line) }
         ensures exact { Gives fault_line (λ state. state) result (read_state window text.now) }
     {
         State::read_exactly(alloc, text, window)
     }
 
-    /// What is handed on; None exactly if a rule of a state is broken. The window is at most a day, the moment at most the last second of the year
-    /// 9999. The tickets rise strictly. Each entry is of a call from 1 up to `call`, and fresh up to 253,402,387,199 at most.
+    /// What is handed on; None exactly if a rule of a state is broken. The window is at most a day, the moment at most
+    /// the last second of the year
+    /// 9999. The tickets rise strictly. Each entry is of a call from 1 up to `call`, and fresh up to 253,402,387,199 at
+    ///       most.
     ///
     /// `call` may be above 4,000,000,000, up to which a text is read.
     pub fn new(window: u64, call: u32, moment: u64, kept: Vec<([u8; 32], Kept)>) -> Option<State>
-        ensures exact { IfSome result (λ state. state ≡ record { window = window; call = call; moment = moment; kept = kept.items }) }
-        ensures rules { IsSome result ↔ IsState (record { window = window; call = call; moment = moment; kept = kept.items }) }
+        ensures exact { IfSome result
+            (λ state. state ≡ record { window = window; call = call; moment = moment; kept = kept.items }) }
+        ensures rules { IsSome result
+            ↔ IsState (record { window = window; call = call; moment = moment; kept = kept.items }) }
         // each ticket is 32 bytes by its type, so that nothing is asked of it but its place
-        ensures made { window ≤ 86400 → moment ≤ 253402300799 → EachIsKept call kept.items → Rises None kept.items → IsSome result }
+        ensures made { window ≤ 86400 → moment ≤ 253402300799 → EachIsKept call kept.items
+            → Rises None kept.items → IsSome result }
     {
         if window <= MOST_WINDOW && moment <= LAST_SECOND && are_entries(call, &kept) {
             return Some(State {
@@ -126,7 +136,8 @@ impl State {
     pub fn write(&self) -> Result<Vec<u8>, AllocError>
         ensures exact { IfOk result (λ text. text.items ≡ state_text self.now) }
         ensures text { self.now.call ≤ 4000000000 → IfOk result (λ text. StateText text.items self.now) }
-        ensures read_again { self.now.call ≤ 4000000000 → IfOk result (λ text. length text.items < 2 ^ 32 - 1 → (window : ℕ) → read_state window text.items ≡ Ok self.now) }
+        ensures read_again { self.now.call ≤ 4000000000 → IfOk result (λ text. length text.items < 2 ^ 32 - 1
+            → (window : ℕ) → read_state window text.items ≡ Ok self.now) }
     {
         let _ = &self.window;
         self.write_exactly()

@@ -1,4 +1,5 @@
-//! The program `stir`: it judges telephone calls by STIR/SHAKEN, and signs them (RFC 8224, 8225, 8226, 8588, 8946 and 9060).
+//! The program `stir`: it judges telephone calls by STIR/SHAKEN, and signs them (RFC 8224, 8225, 8226, 8588, 8946 and
+//! 9060).
 //!
 //! ```sh
 //! $ stir verify --chains chains.txt --anchors anchors.der --table table.txt --answers answers.txt < calls.log
@@ -6,17 +7,18 @@
 //! 2 replay 438 18 1
 //! ```
 //!
-//! `main` makes the real objects (files by their names, the standard input and output, the words after the program's name), hands them to `run` of
-//! `stir_cmd`, and ends with the status that it gives. If memory runs out before `run` can be called it says so itself, with status 6.
+//! `main` makes the real objects (files by their names, the standard input and output, the words after the program's
+//! name), hands them to `run` of `stir_cmd`, and ends with the status that it gives. If memory runs out before `run`
+//! can be called it says so itself, with status 6.
 //!
-//! It reads no environment, no clock and no network, and writes nothing to standard error. `docs/COMMANDS.md` has each command with its options,
-//! lines and statuses; `man -l man/stir.1` shows the same.
+//! It reads no environment, no clock and no network, and writes nothing to standard error. `docs/COMMANDS.md` has each
+//! command with its options, lines and statuses; `man -l man/stir.1` shows the same.
 //!
-//! Proved: this file is safe and returns. All promises are clauses of `run` (`docs/dev/HEADLINE.md`, `docs/dev/PROVED.md`); what the kit's contracts say of
-//! real files and streams is trusted.
+//! Proved: this file is safe and returns. All promises are clauses of `run` (`docs/dev/HEADLINE.md`,
+//! `docs/dev/PROVED.md`); what the kit's contracts say of real files and streams is trusted.
 //!
-//! Cases: `tests/cli`, on logs with their files, on pipes and on closed streams. `stdin`, `args`, `data/`, `stdout` and `status` beside `src/` are
-//! one run that the gate compares.
+//! Cases: `tests/cli`, on logs with their files, on pipes and on closed streams. `stdin`, `args`, `data/`, `stdout` and
+//! `status` beside `src/` are one run that the gate compares.
 #![tactic(auto)]
 
 use std::alloc::Global;

@@ -14,9 +14,9 @@ use Rattle.stir_c.specs.declared.writing.Text.{Text}
 
 -- the part of this number
 abbrev pub part_of : ℕ → Option Part
-part_of number =
-    if number == 1 then Some parts.Serial else if number == 2 then Some parts.Subject else if number == 3 then Some parts.Issuer
-    else if number == 4 then Some parts.Codes else if number == 5 then Some parts.Digest else if number == 6 then Some parts.NotBefore
+part_of number = if number == 1 then Some parts.Serial else if number == 2 then Some parts.Subject
+    else if number == 3 then Some parts.Issuer else if number == 4 then Some parts.Codes
+    else if number == 5 then Some parts.Digest else if number == 6 then Some parts.NotBefore
     else if number == 7 then Some parts.NotAfter else if number == 8 then Some parts.Revocation else None
 
 -- the bytes are certificates one after another, and this is the one of this number, counted from 1
@@ -37,7 +37,8 @@ pub record IsPartOf (bytes : List ℕ) (number part : ℕ) (out : List ℕ) : Ty
 -- so it is; or there is no such certificate, no such part, or nothing of it in the certificate
 abbrev pub ChainPartIs : List ℕ → ℕ → ℕ → Option (List ℕ) → Type 0
 ChainPartIs bytes number part (Some out) = IsPartOf bytes number part out
-ChainPartIs bytes number part None = (certificate : CertView) (kind : Part) → HasCertificate bytes number certificate → part_of part ≡ Some kind → PartIs certificate kind None
+ChainPartIs bytes number part None = (certificate : CertView) (kind : Part) → HasCertificate bytes number certificate
+    → part_of part ≡ Some kind → PartIs certificate kind None
 
 -- such a part, written and told; or kind 6
 pub record ToldPart (bytes : List ℕ) (number part : ℕ) (before now : List ℕ) (said : Said) : Type 0 where

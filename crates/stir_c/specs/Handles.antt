@@ -35,8 +35,10 @@ pub record IsChainUnder (given : GivenWorld) (bytes good : List ℕ) (held : Hel
 abbrev pub IsChainOn : GivenWorld → List ℕ → List ℕ → ChainHandle → Type 0
 IsChainOn given bytes good h = IsSomeAnd (chain_held h) (IsChainUnder given bytes good)
 
--- the call of this message, which came at this moment, opened under such a world; and these chains were handed in for its PASSporTs
-pub record IsCallUnder (given : GivenWorld) (moment : ℕ) (message : List ℕ) (files : List (Option GivenChain)) (held : HeldCallView) : Type 0 where
+-- the call of this message, which came at this moment, opened under such a world; and these chains were handed in for
+-- its PASSporTs
+pub record IsCallUnder (given : GivenWorld) (moment : ℕ) (message : List ℕ) (files : List (Option GivenChain))
+    (held : HeldCallView) : Type 0 where
   pub under : IsWorldOf given held.world
   pub call_is : held.call ≡ record { settings = held.world.settings; moment = moment; message = message }
   pub chains_are : AreGiven held.world files held.chains
@@ -56,4 +58,5 @@ chain_in held = held.chain
 
 -- the same call, with this chain for the PASSporT of this index
 abbrev pub with_chain : ℕ → Option ChainView → HeldCallView → HeldCallView
-with_chain index chain held = record { world = held.world; call = held.call; chains = slice_set held.chains index chain }
+with_chain index chain held =
+    record { world = held.world; call = held.call; chains = slice_set held.chains index chain }

@@ -9,7 +9,8 @@ pub record HeldChainView : Type 0 where
   pub world : WorldView
   pub chain : ChainView
 
--- a call, the world under which it was opened, and for each PASSporT that is judged the chain that was handed in, if one was
+-- a call, the world under which it was opened, and for each PASSporT that is judged the chain that was handed in, if
+-- one was
 pub record HeldCallView : Type 0 where
   pub world : WorldView
   pub call : CallView

@@ -17,7 +17,8 @@ key_in held = record {
   local = held.world.settings.local;
 }
 
--- the first of the certificates that these bytes are, one after another, if they are any; and what these lines and this numbering are read as
+-- the first of the certificates that these bytes are, one after another, if they are any; and what these lines and this
+-- numbering are read as
 pub record IsKeyOn (given : GivenWorld) (bytes : List ℕ) (key : KeyView) : Type 0 where
   pub leaf_is : LeafIs bytes key.leaf
   pub table_is : TableOf given.table key.table
@@ -31,8 +32,10 @@ pub record OnKey (given : GivenWorld) (bytes : List ℕ) (Holds : KeyView → Ty
 
 -- of whatever bytes the chain was opened, its key is that of these
 abbrev pub HasKeyOn : HeldChainView → Type 0
-HasKeyOn held = (given : GivenWorld) (bytes good : List ℕ) → IsChainUnder given bytes good held → IsKeyOn given bytes (key_in held)
+HasKeyOn held = (given : GivenWorld) (bytes good : List ℕ) → IsChainUnder given bytes good held
+    → IsKeyOn given bytes (key_in held)
 
 -- if there is a chain, opened of these bytes, so it is by their key
 abbrev pub ByKey : Option HeldChainView → (KeyView → Type 0) → Type 0
-ByKey held Holds = (given : GivenWorld) (bytes good : List ℕ) → IsSomeAnd held (IsChainUnder given bytes good) → OnKey given bytes Holds
+ByKey held Holds = (given : GivenWorld) (bytes good : List ℕ)
+    → IsSomeAnd held (IsChainUnder given bytes good) → OnKey given bytes Holds

@@ -17,8 +17,8 @@ use Rattle.stir_c.specs.declared.writing.Text.{Text}
 
 -- ---- what is handed in
 
--- a call with its chains, those of its own questions that are confirmed, and where it goes on: the request URI, the first certificate of the key's chain,
--- the URI of that chain, and the second of signing
+-- a call with its chains, those of its own questions that are confirmed, and where it goes on: the request URI, the
+-- first certificate of the key's chain, the URI of that chain, and the second of signing
 abbrev pub given_on : HeldCallView → HeldChainView → List ℕ → List ℕ → List ℕ → ℕ → Given
 given_on held by good uri x5u iat = record {
   world = held.world;
@@ -31,7 +31,8 @@ given_on held by good uri x5u iat = record {
 abbrev pub given_by : HeldCallView → HeldChainView → Moving → Given
 given_by held by moving = given_on held by moving.good.now moving.uri.now moving.x5u.now moving.iat
 
--- If one of the handles is closed that is said, and nothing else; if both are open, what is said is this of what they hold.
+-- If one of the handles is closed that is said, and nothing else; if both are open, what is said is this of what they
+-- hold.
 abbrev pub IfBothOpen : {V W : Type 0} → Option V → Option W → (V → W → Type 0) → Said → Type 0
 IfBothOpen None by Says said = said ≡ plain 5 0
 IfBothOpen (Some held) None Says said = said ≡ plain 5 0

@@ -26,7 +26,17 @@ said_found (Refused refused) size = record {
   size = size;
   ticket = no_ticket;
 }
-said_found (Passes pass) size = record { kind = 0; input = 0; rule = 0; code = 0; field = 0; part = 0; last = pass.last; size = size; ticket = pass.ticket }
+said_found (Passes pass) size = record {
+  kind = 0;
+  input = 0;
+  rule = 0;
+  code = 0;
+  field = 0;
+  part = 0;
+  last = pass.last;
+  size = size;
+  ticket = pass.ticket;
+}
 
 -- the same beside a text of so many bytes, which was written or not
 abbrev pub found_beside : Found → ℕ → Bool → Said

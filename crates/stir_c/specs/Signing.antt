@@ -27,10 +27,12 @@ input_of unread.Signature = Some 9
 input_of unread.Memory = None
 
 abbrev pub said_withheld : ℕ → Said
-said_withheld number = record { kind = 1; input = 0; rule = number; code = 0; field = 0; part = 0; last = 0; size = 0; ticket = no_ticket }
+said_withheld number =
+    record { kind = 1; input = 0; rule = number; code = 0; field = 0; part = 0; last = 0; size = 0; ticket = no_ticket }
 
 abbrev pub said_digest : List ℕ → Said
-said_digest digest = record { kind = 0; input = 0; rule = 0; code = 0; field = 0; part = 0; last = 0; size = 0; ticket = digest }
+said_digest digest =
+    record { kind = 0; input = 0; rule = 0; code = 0; field = 0; part = 0; last = 0; size = 0; ticket = digest }
 
 abbrev pub said_of_unsigned : Unsigned → Said
 said_of_unsigned (unsigned.Input fault) = said_by_input (input_of fault)
@@ -57,17 +59,20 @@ pub record HasFault (order : Given) (input : ℕ) (key : KeyView) : Type 0 where
 
 -- the signature hasn't 64 bytes, which is looked at first; or another input is at fault
 abbrev pub HasFaultWith : Given → List ℕ → ℕ → KeyView → Type 0
-HasFaultWith order signature input key = ((input ≡ 9) × (length signature ≢ 64)) ⊎ ((length signature ≡ 64) × HasFault order input key)
+HasFaultWith order signature input key =
+    ((input ≡ 9) × (length signature ≢ 64)) ⊎ ((length signature ≡ 64) × HasFault order input key)
 
 -- the signed message is in the room, and it is said how many bytes it has; what is after it is as it was
-pub record SignedInto (order : Given) (message signature before now : List ℕ) (said : Said) (key : KeyView) : Type 0 where
+pub record SignedInto (order : Given) (message signature before now : List ℕ) (said : Said)
+    (key : KeyView) : Type 0 where
   pub out : List ℕ
   pub signed : IsSignedBy key order message (Some signature) out
   pub size_is : said.size ≡ length out
   pub text : now ≡ out ++ drop (length out) before
 
 -- it has more bytes than there is room for, and it is said how many
-pub record HasNoRoomForMessage (order : Given) (message signature before : List ℕ) (said : Said) (key : KeyView) : Type 0 where
+pub record HasNoRoomForMessage (order : Given) (message signature before : List ℕ) (said : Said)
+    (key : KeyView) : Type 0 where
   pub out : List ℕ
   pub signed : IsSignedBy key order message (Some signature) out
   pub size_is : said.size ≡ length out

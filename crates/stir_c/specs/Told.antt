@@ -14,7 +14,17 @@ no_ticket = replicate 32 0
 
 -- of this kind, and nothing else
 abbrev pub plain : ℕ → ℕ → Said
-plain kind input = record { kind = kind; input = input; rule = 0; code = 0; field = 0; part = 0; last = 0; size = 0; ticket = no_ticket }
+plain kind input = record {
+  kind = kind;
+  input = input;
+  rule = 0;
+  code = 0;
+  field = 0;
+  part = 0;
+  last = 0;
+  size = 0;
+  ticket = no_ticket;
+}
 
 -- the input of this number is bad; if there is none, memory ran out
 abbrev pub said_by_input : Option ℕ → Said
@@ -22,7 +32,8 @@ said_by_input (Some input) = plain 2 input
 said_by_input None = plain 3 0
 
 abbrev pub no_room : ℕ → Said
-no_room size = record { kind = 4; input = 0; rule = 0; code = 0; field = 0; part = 0; last = 0; size = size; ticket = no_ticket }
+no_room size =
+    record { kind = 4; input = 0; rule = 0; code = 0; field = 0; part = 0; last = 0; size = size; ticket = no_ticket }
 
 -- ---- what they tell of a call
 

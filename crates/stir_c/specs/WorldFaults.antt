@@ -16,8 +16,8 @@ input_of faults.Memory = None
 abbrev pub said_of_world_fault : WorldFault → Said
 said_of_world_fault fault = said_by_input (input_of fault)
 
--- The input of this number is outside its grammar or its limits: 1 the settings, 4 the trust anchors, 5 the code table. Those that are looked at before
--- it aren't.
+-- The input of this number is outside its grammar or its limits: 1 the settings, 4 the trust anchors, 5 the code table.
+-- Those that are looked at before it aren't.
 pub record IsBadWorld (given : GivenWorld) (input : ℕ) : Type 0 where
   pub which : (input ≡ 1) ⊎ (input ≡ 4) ⊎ (input ≡ 5)
   pub settings : input ≡ 1 → AreNoSettings given

@@ -6,7 +6,8 @@ use Rattle.stir_c.specs.declared.said.Said.{Said}
 
 -- so many bytes are written, or there is no room for them
 abbrev pub said_written : ℕ → Bool → Said
-said_written size true = record { kind = 0; input = 0; rule = 0; code = 0; field = 0; part = 0; last = 0; size = size; ticket = no_ticket }
+said_written size true =
+    record { kind = 0; input = 0; rule = 0; code = 0; field = 0; part = 0; last = 0; size = size; ticket = no_ticket }
 said_written size false = no_room size
 
 -- the text was written or not, and so it is told

@@ -25,9 +25,9 @@ pub(crate) struct Opened {
     pub(crate) said: Said,
 }
 
-/// Opens a call under a world: reads its message, and tries the rules of the call. Kind 0: it breaks none of them; `size` is how many PASSporTs are
-/// judged, and `ticket` and `last` tell how it is known again. Kind 1: it breaks `rule` first. Either way it is in `out`. Kind 5: the world's handle
-/// is closed.
+/// Opens a call under a world: reads its message, and tries the rules of the call. Kind 0: it breaks none of them;
+/// `size` is how many PASSporTs are judged, and `ticket` and `last` tell how it is known again. Kind 1: it breaks
+/// `rule` first. Either way it is in `out`. Kind 5: the world's handle is closed.
 #[unsafe(no_mangle)]
 pub extern "C" fn stir_call_open(
     alloc: Global,
@@ -38,7 +38,8 @@ pub extern "C" fn stir_call_open(
 ) -> Said
     ensures kinds { (result.kind ≤ 1) ⊎ IsOneOf 3 5 5 result }
     ensures stays { world_held world.new ≡ world_held world.old }
-    ensures opened { result.kind ≤ 1 → call_held out.new ≡ option_map (λ w. call_opened w moment message.now) (world_held world.old) }
+    ensures opened { result.kind ≤ 1
+        → call_held out.new ≡ option_map (λ w. call_opened w moment message.now) (world_held world.old) }
     ensures early { result.kind ≤ 1 → IfSome (call_held out.new) (λ held. IsEarlyTold held.call result) }
     ensures closed { result.kind ≡ 5 → world_held world.old ≡ None }
     ensures as_was { 3 ≤ result.kind → call_held out.new ≡ call_held out.old }
@@ -66,8 +67,10 @@ fn open(
     moment: u64,
     message: &[u8],
 ) -> Result<Opened, AllocError>
-    ensures opened { IfOk result (λ opened. call_held opened.handle ≡ Some (call_opened (arc_value world.now) moment message.now)) }
-    ensures early { IfOk result (λ opened. IsEarlyTold (call_opened (arc_value world.now) moment message.now).call opened.said) }
+    ensures opened { IfOk result
+        (λ opened. call_held opened.handle ≡ Some (call_opened (arc_value world.now) moment message.now)) }
+    ensures early { IfOk result
+        (λ opened. IsEarlyTold (call_opened (arc_value world.now) moment message.now).call opened.said) }
     ensures kinds { IfOk result (λ opened. opened.said.kind ≤ 1) }
 {
     let call = OpenCall::open(alloc, world, moment, message)?;
@@ -78,8 +81,8 @@ fn open(
     Ok(Opened { handle, said })
 }
 
-/// Hands in the chain to which the x5u of the PASSporT at an index leads, as it is confirmed now; a closed handle takes it away again. Kind 5: the call's
-/// handle is closed. Kind 6: there is no PASSporT at this index.
+/// Hands in the chain to which the x5u of the PASSporT at an index leads, as it is confirmed now; a closed handle takes
+/// it away again. Kind 5: the call's handle is closed. Kind 6: there is no PASSporT at this index.
 #[unsafe(no_mangle)]
 pub extern "C" fn stir_call_chain(
     alloc: Global,
@@ -90,7 +93,8 @@ pub extern "C" fn stir_call_chain(
     ensures kinds { result ≡ plain result.kind 0 }
     ensures few { (result.kind ≡ 0) ⊎ (result.kind ≡ 3) ⊎ (result.kind ≡ 5) ⊎ (result.kind ≡ 6) }
     ensures stays { chain_held chain.new ≡ chain_held chain.old }
-    ensures put { result.kind ≡ 0 → call_held call.new ≡ option_map (with_chain index (option_map chain_in (chain_held chain.old))) (call_held call.old) }
+    ensures put { result.kind ≡ 0 → call_held call.new
+        ≡ option_map (with_chain index (option_map chain_in (chain_held chain.old))) (call_held call.old) }
     ensures there { result.kind ≡ 0 → IfSome (call_held call.old) (λ held. index < length (judged_in held.call)) }
     ensures none { result.kind ≡ 6 → IfSome (call_held call.old) (λ held. length (judged_in held.call) ≤ index) }
     ensures closed { result.kind ≡ 5 → call_held call.old ≡ None }
@@ -124,7 +128,8 @@ fn put(owner: &mut Owner, index: usize, given: Option<Arc<OpenChain, Global>>) -
 
 /// Puts a chain in its place in a call, if there is such a place.
 fn put_in(held: &mut HeldCall, index: usize, given: Option<Arc<OpenChain, Global>>) -> Said
-    ensures { IsPut index (option_map arc_value given) (Some (view_of_call held.old)) (Some (view_of_call held.new)) result }
+    ensures { IsPut index (option_map arc_value given) (Some (view_of_call held.old))
+        (Some (view_of_call held.new)) result }
 {
     if index >= held.chains.count() {
         return Said::none();
@@ -153,7 +158,8 @@ fn share(
     }
 }
 
-/// Closes a handle of a call, and gives back what the call holds of its world and its chains. To close a closed one does nothing.
+/// Closes a handle of a call, and gives back what the call holds of its world and its chains. To close a closed one
+/// does nothing.
 #[unsafe(no_mangle)]
 pub extern "C" fn stir_call_close(alloc: Global, call: &mut CallHandle)
     ensures { call_held call.new ≡ None }

@@ -20,8 +20,8 @@ use open_calls::{OpenChain, OpenWorld};
 use std::alloc::{AllocError, Global};
 use std::sync::Arc;
 
-/// Opens a chain under a world: its certificates one after another in DER, the leaf first. Kind 0: it is in `out`, judged by rules 11, 12 and 14, and none
-/// of its questions is confirmed. Kind 5: the world's handle is closed.
+/// Opens a chain under a world: its certificates one after another in DER, the leaf first. Kind 0: it is in `out`,
+/// judged by rules 11, 12 and 14, and none of its questions is confirmed. Kind 5: the world's handle is closed.
 #[unsafe(no_mangle)]
 pub extern "C" fn stir_chain_open(
     alloc: Global,
@@ -64,8 +64,9 @@ fn open(
     ChainHandle::on(alloc, world, chain)
 }
 
-/// Asks for the signatures of the chain's certificates: writes its questions, 161 bytes each, from the leaf's on. There are at most six, and none if it breaks
-/// one of rules 11, 12 and 14. Kind 4: there is no room for them. Kind 5: the handle is closed.
+/// Asks for the signatures of the chain's certificates: writes its questions, 161 bytes each, from the leaf's on. There
+/// are at most six, and none if it breaks one of rules 11, 12 and 14. Kind 4: there is no room for them. Kind 5: the
+/// handle is closed.
 #[unsafe(no_mangle)]
 pub extern "C" fn stir_chain_questions(
     alloc: Global,
@@ -74,7 +75,8 @@ pub extern "C" fn stir_chain_questions(
 ) -> Said
     ensures kinds { result.kind ≤ 5 }
     ensures stays { chain_held chain.new ≡ chain_held chain.old }
-    ensures told { result.kind ≢ 3 → IfOpen (chain_held chain.old) (λ held. ToldText (questions_bytes (chain_questions held.chain.state)) room.old room.new result) result }
+    ensures told { result.kind ≢ 3 → IfOpen (chain_held chain.old)
+        (λ held. ToldText (questions_bytes (chain_questions held.chain.state)) room.old room.new result) result }
     ensures closed { result.kind ≡ 5 → chain_held chain.old ≡ None }
     ensures as_was { 1 ≤ result.kind → room.new ≡ room.old }
 {
@@ -89,7 +91,8 @@ pub extern "C" fn stir_chain_questions(
 
 /// The questions of a chain, written into the room and told.
 fn told_questions(alloc: Global, held: &HeldChain, room: &mut [u8]) -> Said
-    ensures told { result.kind ≢ 3 → ToldText (questions_bytes (chain_questions (view_of_chain held.now).chain.state)) room.old room.new result }
+    ensures told { result.kind ≢ 3
+        → ToldText (questions_bytes (chain_questions (view_of_chain held.now).chain.state)) room.old room.new result }
     ensures kinds { result.kind ≤ 4 }
     ensures as_was { 1 ≤ result.kind → room.new ≡ room.old }
 {
@@ -101,20 +104,23 @@ fn told_questions(alloc: Global, held: &HeldChain, room: &mut [u8]) -> Said
 
 /// The bytes of the questions of a chain. `AllocError` is the only error.
 fn bytes_of(alloc: Global, held: &HeldChain) -> Result<Text, AllocError>
-    ensures { IfOk result (λ text. text.bytes.items ≡ questions_bytes (chain_questions (view_of_chain held.now).chain.state)) }
+    ensures { IfOk result
+        (λ text. text.bytes.items ≡ questions_bytes (chain_questions (view_of_chain held.now).chain.state)) }
 {
     let questions = held.chain.questions(alloc)?;
     let bytes = questions_bytes(alloc, questions.as_slice())?;
     Ok(Text { bytes })
 }
 
-/// Says which of the chain's questions are confirmed: a byte for each, 0 if it isn't. From now on this handle is the chain with these confirmed, and no
-/// others; what was shared before stays. Kind 5: the handle is closed.
+/// Says which of the chain's questions are confirmed: a byte for each, 0 if it isn't. From now on this handle is the
+/// chain with these confirmed, and no others; what was shared before stays. Kind 5: the handle is closed.
 #[unsafe(no_mangle)]
 pub extern "C" fn stir_chain_confirm(alloc: Global, chain: &mut ChainHandle, good: &[u8]) -> Said
     ensures kinds { IsOneOf 0 3 5 result }
-    ensures exact { result.kind ≡ 0 → chain_held chain.new ≡ option_map (confirmed_with good.now) (chain_held chain.old) }
-    ensures confirmed { (given : GivenWorld) (bytes before : List ℕ) → IsChainOn given bytes before chain.old → result.kind ≡ 0 → IsChainOn given bytes good.now chain.new }
+    ensures exact { result.kind ≡ 0
+        → chain_held chain.new ≡ option_map (confirmed_with good.now) (chain_held chain.old) }
+    ensures confirmed { (given : GivenWorld) (bytes before : List ℕ) → IsChainOn given bytes before chain.old
+        → result.kind ≡ 0 → IsChainOn given bytes good.now chain.new }
     ensures closed { result.kind ≡ 5 → chain_held chain.old ≡ None }
     ensures as_was { 3 ≤ result.kind → chain_held chain.new ≡ chain_held chain.old }
 {
@@ -137,8 +143,8 @@ pub extern "C" fn stir_chain_confirm(alloc: Global, chain: &mut ChainHandle, goo
 /// A new handle of the same chain with these of its questions confirmed. `AllocError` is the only error.
 fn confirm(alloc: Global, held: &HeldChain, good: &[u8]) -> Result<ChainHandle, AllocError>
     ensures exact { IfOk result (λ h. chain_held h ≡ Some (confirmed_with good.now (view_of_chain held.now))) }
-    ensures confirmed { (given : GivenWorld) (bytes before : List ℕ) → IsChainUnder given bytes before (view_of_chain held.now)
-        → IfOk result (IsChainOn given bytes good.now) }
+    ensures confirmed { (given : GivenWorld) (bytes before : List ℕ)
+        → IsChainUnder given bytes before (view_of_chain held.now) → IfOk result (IsChainOn given bytes good.now) }
 {
     let chain = held.chain.confirm(alloc, &held.world, good)?;
     let chain = Arc::new(alloc, chain)?;

@@ -13,10 +13,12 @@ use crate::said::Said;
 use crate::writing::{Text, told_text};
 use std::alloc::{AllocError, Global};
 
-/// Writes a part of a certificate of the chain, for who asks whether it is revoked (RFC 5280). Certificates count from 1, the leaf's. Parts: 1 the content of
-/// the serial number, 2 the subject and 3 the issuer, whole elements, 4 the service provider codes, each with an LF, 5 the SHA-256 of the signed part, 6 the
-/// first and 7 the last second at which it is valid, in decimal digits, 8 the URIs of its CRL distribution points, each with an LF. Kind 4: there is no room.
-/// Kind 5: the handle is closed. Kind 6: there is no certificate or part of this number, or nothing of this part in it.
+/// Writes a part of a certificate of the chain, for who asks whether it is revoked (RFC 5280). Certificates count from
+/// 1, the leaf's. Parts: 1 the content of the serial number, 2 the subject and 3 the issuer, whole elements, 4 the
+/// service provider codes, each with an LF, 5 the SHA-256 of the signed part, 6 the first and 7 the last second at
+/// which it is valid, in decimal digits, 8 the URIs of its CRL distribution points, each with an LF. Kind 4: there is
+/// no room. Kind 5: the handle is closed. Kind 6: there is no certificate or part of this number, or nothing of this
+/// part in it.
 #[unsafe(no_mangle)]
 pub extern "C" fn stir_chain_part(
     alloc: Global,
@@ -27,7 +29,8 @@ pub extern "C" fn stir_chain_part(
 ) -> Said
     ensures kinds { result.kind ≤ 6 }
     ensures stays { chain_held chain.new ≡ chain_held chain.old }
-    ensures told { result.kind ≢ 3 → IfOpen (chain_held chain.old) (λ held. ToldPart held.chain.bytes number part room.old room.new result) result }
+    ensures told { result.kind ≢ 3 → IfOpen (chain_held chain.old)
+        (λ held. ToldPart held.chain.bytes number part room.old room.new result) result }
     ensures closed { result.kind ≡ 5 → chain_held chain.old ≡ None }
     ensures as_was { 1 ≤ result.kind → room.new ≡ room.old }
 {
@@ -47,7 +50,8 @@ fn part_held(
     number: u32,
     part: u32,
 ) -> Result<Option<Text>, AllocError>
-    ensures { IfOk result (λ found. ChainPartIs (view_of_chain held.now).chain.bytes number part (option_map (λ text. text.bytes.items) found)) }
+    ensures { IfOk result (λ found.
+        ChainPartIs (view_of_chain held.now).chain.bytes number part (option_map (λ text. text.bytes.items) found)) }
 {
     chain_part(alloc, held.chain.bytes(), number, part)
 }

@@ -9,10 +9,12 @@ use crate::moving::{Moving, moved_text, told_moved, told_unmoved};
 use crate::said::Said;
 use std::alloc::Global;
 
-/// Tells what has to be signed so that a call goes on to a target (RFC 8946, section 4): the call is judged over the chains that were handed in, by `good` as
-/// of `stir_call_judge`. Kind 0: it passes and may go on there; `ticket` is the digest to be signed. Kind 1: it breaks `rule` first, at `field` and
-/// `part`; or it passes and can't go on there, for the cause `rule`, 21 to 25. Kind 2: the input of this number is at fault; they are looked at in this
-/// order: 7 the first certificate of the key's chain, which has to have an authority list, 8 the x5u and the second. Kind 5: a handle is closed.
+/// Tells what has to be signed so that a call goes on to a target (RFC 8946, section 4): the call is judged over the
+/// chains that were handed in, by `good` as of `stir_call_judge`. Kind 0: it passes and may go on there; `ticket` is
+/// the digest to be signed. Kind 1: it breaks `rule` first, at `field` and `part`; or it passes and can't go on there,
+/// for the cause `rule`, 21 to 25. Kind 2: the input of this number is at fault; they are looked at in this order: 7
+/// the first certificate of the key's chain, which has to have an authority list, 8 the x5u and the second. Kind 5: a
+/// handle is closed.
 #[unsafe(no_mangle)]
 pub extern "C" fn stir_to_retarget(
     alloc: Global,
@@ -55,9 +57,10 @@ pub extern "C" fn stir_to_retarget(
     said
 }
 
-/// Writes the message that goes on: the call's with the target as its request URI and one more Identity field, which has this signature over the digest that
-/// `stir_to_retarget` gives for the same inputs. Whether the signature is good isn't looked at. The kinds are those of `stir_to_retarget`; of kind 0
-/// `size` bytes are written. Kind 2 may also name the signature, 9, which is looked at first. Kind 4: there is no room for the message.
+/// Writes the message that goes on: the call's with the target as its request URI and one more Identity field, which
+/// has this signature over the digest that `stir_to_retarget` gives for the same inputs. Whether the signature is good
+/// isn't looked at. The kinds are those of `stir_to_retarget`; of kind 0 `size` bytes are written. Kind 2 may also name
+/// the signature, 9, which is looked at first. Kind 4: there is no room for the message.
 #[unsafe(no_mangle)]
 pub extern "C" fn stir_retargeted(
     alloc: Global,
@@ -75,9 +78,9 @@ pub extern "C" fn stir_retargeted(
     ensures key_stays { chain_held key.new ≡ chain_held key.old }
 
     // What the gateway promises over exactly these chains and these answers, by this signature.
-    ensures told { IfBothOpen (call_held call.old) (chain_held key.old)
-        (λ held by. ToldMoved (IsMovedBy (given_on held by good.now target.now x5u.now iat) (Some signature.now))
-        (IsUnmovedWith (given_on held by good.now target.now x5u.now iat) signature.now) room.old room.new result) result }
+    ensures told { IfBothOpen (call_held call.old) (chain_held key.old) (λ held by.
+        ToldMoved (IsMovedBy (given_on held by good.now target.now x5u.now iat) (Some signature.now)) (IsUnmovedWith
+        (given_on held by good.now target.now x5u.now iat) signature.now) room.old room.new result) result }
     ensures closed { result.kind ≡ 5 → (call_held call.old ≡ None) ⊎ (chain_held key.old ≡ None) }
     ensures as_was { 1 ≤ result.kind → room.new ≡ room.old }
 {

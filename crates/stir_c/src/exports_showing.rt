@@ -7,8 +7,8 @@ use crate::showing::{Unshown, show};
 use crate::writing::{Text, told_text};
 use std::alloc::Global;
 
-/// Shows a chain of certificates, at most six one after another in DER: writes the lines of the command `show`. Kind 0: they are written. Kind 2: the
-/// bytes are no such chain. Kind 4: there is no room for the lines.
+/// Shows a chain of certificates, at most six one after another in DER: writes the lines of the command `show`. Kind 0:
+/// they are written. Kind 2: the bytes are no such chain. Kind 4: there is no room for the lines.
 #[unsafe(no_mangle)]
 pub extern "C" fn stir_show(alloc: Global, chain: &[u8], room: &mut [u8]) -> Said
     ensures kinds { result.kind ≤ 4 }

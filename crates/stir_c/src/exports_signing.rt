@@ -38,10 +38,11 @@ impl SigningOrder {
     }
 }
 
-/// Tells what has to be signed so that a message gets an Identity field (RFC 8224, section 4.1). The field has the PASSporT of the message's calling
-/// number and that of To. Kind 0: `ticket` is the digest to be signed. Kind 1: nothing may be signed, for the cause `rule`: 1 the message can't be, 2
-/// it lacks a number, 3 the first certificate of the chain doesn't cover the calling number. Kind 2: the input of this number is at fault; they are looked
-/// at in this order: 7 the first certificate, which has to have an authority list, 8 the order. Kind 5: the handle is closed.
+/// Tells what has to be signed so that a message gets an Identity field (RFC 8224, section 4.1). The field has the
+/// PASSporT of the message's calling number and that of To. Kind 0: `ticket` is the digest to be signed. Kind 1:
+/// nothing may be signed, for the cause `rule`: 1 the message can't be, 2 it lacks a number, 3 the first certificate of
+/// the chain doesn't cover the calling number. Kind 2: the input of this number is at fault; they are looked at in this
+/// order: 7 the first certificate, which has to have an authority list, 8 the order. Kind 5: the handle is closed.
 #[unsafe(no_mangle)]
 pub extern "C" fn stir_to_sign(
     alloc: Global,
@@ -50,14 +51,16 @@ pub extern "C" fn stir_to_sign(
     x5u: &[u8],
     message: &[u8],
 ) -> Said
-    ensures { TellsToSign (origin_given order.now x5u.now) message.now (chain_held key.old) (chain_held key.new) result }
+    ensures { TellsToSign (origin_given order.now x5u.now) message.now (chain_held key.old)
+        (chain_held key.new) result }
 {
     to_sign_on(alloc, key, &order.origin(x5u), message)
 }
 
-/// Writes the message with its Identity field, which has this signature over the digest that `stir_to_sign` gives for the same inputs. Whether the
-/// signature is good isn't looked at. The kinds are those of `stir_to_sign`; of kind 0 `size` bytes are written. Kind 2 may also name the signature, 9,
-/// which is looked at first. Kind 4: there is no room for the message.
+/// Writes the message with its Identity field, which has this signature over the digest that `stir_to_sign` gives for
+/// the same inputs. Whether the signature is good isn't looked at. The kinds are those of `stir_to_sign`; of kind 0
+/// `size` bytes are written. Kind 2 may also name the signature, 9, which is looked at first. Kind 4: there is no room
+/// for the message.
 #[unsafe(no_mangle)]
 pub extern "C" fn stir_signed(
     alloc: Global,
@@ -68,14 +71,16 @@ pub extern "C" fn stir_signed(
     signature: &[u8],
     room: &mut [u8],
 ) -> Said
-    ensures { TellsSigned (origin_given order.now x5u.now) message.now signature.now (chain_held key.old) (chain_held key.new) room.old room.new result }
+    ensures { TellsSigned (origin_given order.now x5u.now) message.now signature.now (chain_held key.old)
+        (chain_held key.new) room.old room.new result }
 {
     signed_on(alloc, key, &order.origin(x5u), message, signature, room)
 }
 
-/// Tells what has to be signed so that a message tells of its diversion (RFC 8946, section 4.1). The field has a PASSporT of the type `div` from the calling
-/// number to that of the request URI; `earlier` is the number that was called before, 1 to 15 bytes of digits, `*` and `#`. The kinds are those of
-/// `stir_to_sign`, with the request URI in place of To; the first certificate has to cover the earlier number.
+/// Tells what has to be signed so that a message tells of its diversion (RFC 8946, section 4.1). The field has a
+/// PASSporT of the type `div` from the calling number to that of the request URI; `earlier` is the number that was
+/// called before, 1 to 15 bytes of digits, `*` and `#`. The kinds are those of `stir_to_sign`, with the request URI in
+/// place of To; the first certificate has to cover the earlier number.
 #[unsafe(no_mangle)]
 pub extern "C" fn stir_to_divert(
     alloc: Global,
@@ -85,14 +90,16 @@ pub extern "C" fn stir_to_divert(
     x5u: &[u8],
     message: &[u8],
 ) -> Said
-    ensures { TellsToSign (diversion iat earlier.now x5u.now) message.now (chain_held key.old) (chain_held key.new) result }
+    ensures { TellsToSign (diversion iat earlier.now x5u.now) message.now (chain_held key.old)
+        (chain_held key.new) result }
 {
     let order = Order::Diversion { iat, earlier, x5u };
     to_sign_on(alloc, key, &order, message)
 }
 
-/// Writes the message with the Identity field that tells of its diversion, which has this signature over the digest that `stir_to_divert` gives for the same
-/// inputs. Whether the signature is good isn't looked at. The kinds are those of `stir_signed`.
+/// Writes the message with the Identity field that tells of its diversion, which has this signature over the digest
+/// that `stir_to_divert` gives for the same inputs. Whether the signature is good isn't looked at. The kinds are those
+/// of `stir_signed`.
 #[unsafe(no_mangle)]
 pub extern "C" fn stir_diverted(
     alloc: Global,
@@ -104,7 +111,8 @@ pub extern "C" fn stir_diverted(
     signature: &[u8],
     room: &mut [u8],
 ) -> Said
-    ensures { TellsSigned (diversion iat earlier.now x5u.now) message.now signature.now (chain_held key.old) (chain_held key.new) room.old room.new result }
+    ensures { TellsSigned (diversion iat earlier.now x5u.now) message.now signature.now (chain_held key.old)
+        (chain_held key.new) room.old room.new result }
 {
     let order = Order::Diversion { iat, earlier, x5u };
     signed_on(alloc, key, &order, message, signature, room)
@@ -136,7 +144,8 @@ fn signed_on(
     signature: &[u8],
     room: &mut [u8],
 ) -> Said
-    ensures { TellsSigned (given_of order.now) message.now signature.now (chain_held key.old) (chain_held key.new) room.old room.new result }
+    ensures { TellsSigned (given_of order.now) message.now signature.now (chain_held key.old) (chain_held key.new)
+        room.old room.new result }
 {
     let owner = match key.take(alloc) {
         Some(owner) => owner,

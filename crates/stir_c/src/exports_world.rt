@@ -28,8 +28,9 @@ pub struct Settings {
     pub national: u8,
 }
 
-/// Opens a world by settings, trust anchors one after another in DER, and the lines of a code table. Kind 0: it is in `out`. Kind 2: the input of
-/// this number is outside its grammar or its limits; they are looked at in this order: 1 the settings, 4 the anchors, 5 the table.
+/// Opens a world by settings, trust anchors one after another in DER, and the lines of a code table. Kind 0: it is in
+/// `out`. Kind 2: the input of this number is outside its grammar or its limits; they are looked at in this order: 1
+/// the settings, 4 the anchors, 5 the table.
 #[unsafe(no_mangle)]
 pub extern "C" fn stir_world_open(
     alloc: Global,

@@ -48,7 +48,8 @@ fn told_beside(beside: &Beside, room: &mut [u8]) -> Said
 
 /// The x5u of the PASSporT at an index, written into the room and told.
 pub(crate) fn told_x5u(held: &HeldCall, index: usize, room: &mut [u8]) -> Said
-    ensures told { ToldMaybe (option_map x5u_in (slice_get (judged_in (view_of_call held.now).call) index)) room.old room.new result }
+    ensures told { ToldMaybe (option_map x5u_in (slice_get (judged_in (view_of_call held.now).call) index))
+        room.old room.new result }
     ensures kinds { (result.kind ≤ 4) ⊎ (result.kind ≡ 6) }
     ensures as_was { 1 ≤ result.kind → room.new ≡ room.old }
 {
@@ -69,7 +70,8 @@ pub(crate) fn told_header(
     index: usize,
     room: &mut [u8],
 ) -> Said
-    ensures told { result.kind ≢ 3 → ToldMaybe (header_in (view_of_call held.now).call name.now index) room.old room.new result }
+    ensures told { result.kind ≢ 3
+        → ToldMaybe (header_in (view_of_call held.now).call name.now index) room.old room.new result }
     ensures kinds { (result.kind ≤ 4) ⊎ (result.kind ≡ 6) }
     ensures as_was { 1 ≤ result.kind → room.new ≡ room.old }
 {
@@ -95,7 +97,8 @@ pub(crate) fn told_claims(alloc: Global, held: &HeldCall, room: &mut [u8]) -> Sa
 /// What the PASSporTs of a call say. `AllocError` is the only error.
 fn claims(alloc: Global, held: &HeldCall) -> Result<Beside, AllocError>
     ensures early { IfOk result (λ beside. IsFoundEarly (call_in (view_of_call held.now).call) beside.found) }
-    ensures text { IfOk result (λ beside. beside.text.bytes.items ≡ claims_lines (judged_in (view_of_call held.now).call)) }
+    ensures text { IfOk result
+        (λ beside. beside.text.bytes.items ≡ claims_lines (judged_in (view_of_call held.now).call)) }
 {
     let bytes = held.call.claims(alloc)?;
     Ok(Beside {
@@ -116,9 +119,11 @@ pub(crate) fn told_questions(alloc: Global, held: &HeldCall, room: &mut [u8]) ->
     }
 }
 
-/// The bytes of the PASSporTs' own questions, and what comes of the call if all of them are confirmed. `AllocError` is the only error.
+/// The bytes of the PASSporTs' own questions, and what comes of the call if all of them are confirmed. `AllocError` is
+/// the only error.
 fn asked(alloc: Global, held: &HeldCall) -> Result<Beside, AllocError>
-    ensures over { (says : Says) → Confirms says (own_of (view_of_call held.now)) → IfOk result (λ beside. IsFoundOf says (view_of_call held.now) beside.found) }
+    ensures over { (says : Says) → Confirms says (own_of (view_of_call held.now))
+        → IfOk result (λ beside. IsFoundOf says (view_of_call held.now) beside.found) }
     ensures text { IfOk result (λ beside. beside.text.bytes.items ≡ questions_bytes (own_of (view_of_call held.now))) }
 {
     let chains = held.chains.open(alloc)?;
@@ -134,7 +139,8 @@ fn asked(alloc: Global, held: &HeldCall) -> Result<Beside, AllocError>
 #[tactic(auto, using(crate::proofs::JudgedLaws::told_right))]
 pub(crate) fn told_judged(alloc: Global, held: &HeldCall, good: &[u8]) -> Said
     ensures exact { result.kind ≢ 3 → IsJudged (view_of_call held.now) good.now result }
-    ensures right { (rules : World) (files : List (Option GivenChain)) → result.kind ≤ 1 → IsRightFor rules files (view_of_call held.now) good.now result }
+    ensures right { (rules : World) (files : List (Option GivenChain)) → result.kind ≤ 1
+        → IsRightFor rules files (view_of_call held.now) good.now result }
     ensures kinds { result.kind ≤ 3 }
 {
     match judge(alloc, held, good) {
@@ -146,7 +152,8 @@ pub(crate) fn told_judged(alloc: Global, held: &HeldCall, good: &[u8]) -> Said
 /// What comes of a call if these of its own questions are confirmed. `AllocError` is the only error.
 fn judge(alloc: Global, held: &HeldCall, good: &[u8]) -> Result<Found, AllocError>
     ensures exact { IfOk result (IsFoundOf (says_of (view_of_call held.now) good.now) (view_of_call held.now)) }
-    ensures right { (rules : World) (files : List (Option GivenChain)) → IfOk result (IsRightFound rules files (view_of_call held.now) good.now) }
+    ensures right { (rules : World) (files : List (Option GivenChain))
+        → IfOk result (IsRightFound rules files (view_of_call held.now) good.now) }
 {
     let chains = held.chains.open(alloc)?;
     held.call.judge(alloc, &held.world, &chains, good)
@@ -172,7 +179,8 @@ pub(crate) fn told_explained(
 
 /// The lines that explain a call, and what comes of it. `AllocError` is the only error.
 fn explain(alloc: Global, held: &HeldCall, number: u32, good: &[u8]) -> Result<Beside, AllocError>
-    ensures over { IfOk result (λ beside. IsFoundOf (says_of (view_of_call held.now) good.now) (view_of_call held.now) beside.found) }
+    ensures over { IfOk result
+        (λ beside. IsFoundOf (says_of (view_of_call held.now) good.now) (view_of_call held.now) beside.found) }
     ensures text { IfOk result (λ beside. beside.text.bytes.items ≡ explained number (finding_of beside.found)) }
 {
     let found = judge(alloc, held, good)?;
@@ -187,8 +195,8 @@ fn explain(alloc: Global, held: &HeldCall, number: u32, good: &[u8]) -> Result<B
 
 /// The lines of an answers file that confirms all that is asked, written into the room and told.
 pub(crate) fn told_lines(alloc: Global, held: &HeldCall, room: &mut [u8]) -> Said
-    ensures told { result.kind ≢ 3 → ToldText (ask_lines (all_asked (view_of_call held.now).world.table (states_of (view_of_call held.now).chains) (call_in (view_of_call held.now).call))) room.old
-        room.new result }
+    ensures told { result.kind ≢ 3 → ToldText (ask_lines (all_asked (view_of_call held.now).world.table
+        (states_of (view_of_call held.now).chains) (call_in (view_of_call held.now).call))) room.old room.new result }
     ensures kinds { result.kind ≤ 4 }
     ensures as_was { 1 ≤ result.kind → room.new ≡ room.old }
 {
@@ -200,8 +208,8 @@ pub(crate) fn told_lines(alloc: Global, held: &HeldCall, room: &mut [u8]) -> Sai
 
 /// The lines of an answers file that confirms all that is asked. `AllocError` is the only error.
 fn lines(alloc: Global, held: &HeldCall) -> Result<Text, AllocError>
-    ensures { IfOk result (λ text. text.bytes.items
-        ≡ ask_lines (all_asked (view_of_call held.now).world.table (states_of (view_of_call held.now).chains) (call_in (view_of_call held.now).call))) }
+    ensures { IfOk result (λ text. text.bytes.items ≡ ask_lines (all_asked (view_of_call held.now).world.table
+        (states_of (view_of_call held.now).chains) (call_in (view_of_call held.now).call))) }
 {
     let chains = held.chains.open(alloc)?;
     let bytes = held.call.lines(alloc, &held.world, &chains)?;

@@ -1,5 +1,5 @@
-//! What is signed by the key of a chain that a handle holds: by its first certificate, and the code table and the local numbering of the world under which
-//! it was opened.
+//! What is signed by the key of a chain that a handle holds: by its first certificate, and the code table and the local
+//! numbering of the world under which it was opened.
 ghost use Rattle.std.specs.Prelude.{IfErr, IfOk, None, Some};
 ghost use Rattle.der_reader.specs.Elem.{AllBytes};
 ghost use Rattle.open_calls.specs.Order.{given_of};
@@ -22,7 +22,8 @@ pub(crate) fn told_digest(
     order: &Order<'_>,
     message: &[u8],
 ) -> Said
-    ensures { ToldUnsigned (IsUnsignedFor (key_in (view_of_chain held.now)) (given_of order.now) message.now None) result }
+    ensures { ToldUnsigned (IsUnsignedFor (key_in (view_of_chain held.now)) (given_of order.now) message.now None)
+        result }
 {
     let key = Key {
         leaf: held.chain.leaf(),
@@ -40,8 +41,10 @@ pub(crate) fn signed_text(
     message: &[u8],
     signature: &[u8],
 ) -> Result<Text, Unsigned>
-    ensures signed { IfOk result (λ text. IsSignedBy (key_in (view_of_chain held.now)) (given_of order.now) message.now (Some signature.now) text.bytes.items) }
-    ensures unsigned { IfErr result (IsUnsignedWith (key_in (view_of_chain held.now)) (given_of order.now) message.now signature.now) }
+    ensures signed { IfOk result (λ text. IsSignedBy (key_in (view_of_chain held.now)) (given_of order.now) message.now
+        (Some signature.now) text.bytes.items) }
+    ensures unsigned { IfErr result
+        (IsUnsignedWith (key_in (view_of_chain held.now)) (given_of order.now) message.now signature.now) }
 {
     let key = Key {
         leaf: held.chain.leaf(),

@@ -15,8 +15,8 @@
 //! certificates --stir_show-->                                what they say, in lines
 //! ```
 //!
-//! - A handle is closed, or the address of one owner ([`owner`]): a share of a world, a chain, or a call. [`handle`] and [`slot`] are what it is in memory, and
-//!   [`taking`] takes its owner out for a call and puts it back.
+//! - A handle is closed, or the address of one owner ([`owner`]): a share of a world, a chain, or a call. [`handle`]
+//!   and [`slot`] are what it is in memory, and [`taking`] takes its owner out for a call and puts it back.
 //! - Each call gives a [`Said`]: its `kind`, and what belongs to that kind. A text goes into the caller's room.
 //! - `open_calls` judges a call, and signs a message or sends a call on.
 //!
@@ -25,18 +25,21 @@
 //! if (said.kind == STIR_PASSES) { .. stir_call_chain(&call, 0, &chain); said = stir_call_questions(&call, room, sizeof room); }
 //! ```
 //!
-//! No file is read, nothing is waited for, and no thread is started. A handle is in one call at a time; threads have shares of their own.
+//! No file is read, nothing is waited for, and no thread is started. A handle is in one call at a time; threads have
+//! shares of their own.
 //!
 //! # What it isn't
 //!
-//! No rule is decided here, and no ES256 is done: the caller asks his verifier and his signer. Nothing remembers tickets: letting each pass once is the
-//! caller's part. The pointers and lengths, and that the chains are those to which the x5us lead, are believed; `include/stir.h` says what the caller owes.
+//! No rule is decided here, and no ES256 is done: the caller asks his verifier and his signer. Nothing remembers
+//! tickets: letting each pass once is the caller's part. The pointers and lengths, and that the chains are those to
+//! which the x5us lead, are believed; `include/stir.h` says what the caller owes.
 //!
 //! # What is proved
 //!
-//! The clauses of each export say of the bytes from which the handles were opened what the rules say of the call: which rule is broken first, by what the call
-//! is known again, what is asked, what is to be signed; and which input is at fault. `docs/dev/PROVED.md`, "The library for C", has them. Neither a file nor a
-//! provider can fail here, so no call is set aside.
+//! The clauses of each export say of the bytes from which the handles were opened what the rules say of the call: which
+//! rule is broken first, by what the call is known again, what is asked, what is to be signed; and which input is at
+//! fault. `docs/dev/PROVED.md`, "The library for C", has them. Neither a file nor a provider can fail here, so no call
+//! is set aside.
 //!
 //! # Cases
 //!

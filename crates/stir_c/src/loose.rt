@@ -1,7 +1,7 @@
 //! A box taken apart into its address and the right to free it, and put together again. So C can hold the address.
 //!
-//! It keeps nothing and frees nothing: whoever takes a box apart puts it together again, since a [`Loose`] can't be dropped. What goes in comes out: the value
-//! is the same before and after, and at the address lies that value alone.
+//! It keeps nothing and frees nothing: whoever takes a box apart puts it together again, since a [`Loose`] can't be
+//! dropped. What goes in comes out: the value is the same before and after, and at the address lies that value alone.
 ghost use Rattle.std.specs.Prelude.{◌≡◌};
 ghost use Rattle.std.specs.Box.Ownership.{box_owns};
 

@@ -34,7 +34,8 @@ pub(crate) fn told_unmoved(
     by: &HeldChain,
     moving: &Moving<'_>,
 ) -> Said
-    ensures { ToldUnmoved (IsUnmovedFor (given_by (view_of_call held.now) (view_of_chain by.now) moving.now) None) result }
+    ensures { ToldUnmoved (IsUnmovedFor (given_by (view_of_call held.now) (view_of_chain by.now) moving.now) None)
+        result }
 {
     let chains = match held.chains.open(alloc) {
         Ok(chains) => chains,
@@ -80,8 +81,10 @@ pub(crate) fn moved_text(
     moving: &Moving<'_>,
     signature: &[u8],
 ) -> Result<Text, Unmoved>
-    ensures moved { IfOk result (λ text. IsMovedBy (given_by (view_of_call held.now) (view_of_chain by.now) moving.now) (Some signature.now) text.bytes.items) }
-    ensures unmoved { IfErr result (IsUnmovedWith (given_by (view_of_call held.now) (view_of_chain by.now) moving.now) signature.now) }
+    ensures moved { IfOk result (λ text. IsMovedBy (given_by (view_of_call held.now) (view_of_chain by.now) moving.now)
+        (Some signature.now) text.bytes.items) }
+    ensures unmoved { IfErr result
+        (IsUnmovedWith (given_by (view_of_call held.now) (view_of_chain by.now) moving.now) signature.now) }
 {
     let chains = match held.chains.open(alloc) {
         Ok(chains) => chains,
@@ -115,8 +118,10 @@ fn text_by(
     signature: &[u8],
 ) -> Result<Text, Unmoved>
     requires one_each { length chains.now ≡ length (judged_in call.now) }
-    ensures moved { IfOk result (λ text. IsMovedBy (given_of world.now call.now chains.now good.now target.now) (Some signature.now) text.bytes.items) }
-    ensures unmoved { IfErr result (IsUnmovedWith (given_of world.now call.now chains.now good.now target.now) signature.now) }
+    ensures moved { IfOk result (λ text.
+        IsMovedBy (given_of world.now call.now chains.now good.now target.now) (Some signature.now) text.bytes.items) }
+    ensures unmoved { IfErr result
+        (IsUnmovedWith (given_of world.now call.now chains.now good.now target.now) signature.now) }
 {
     match retargeted(alloc, world, call, chains, good, target, signature) {
         Ok(bytes) => Ok(Text { bytes }),

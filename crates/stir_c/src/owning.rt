@@ -1,7 +1,8 @@
 //! What an owner owns, if it is known of which kind it is.
 ghost use Rattle.std.specs.Prelude.{◌≡◌, Some, true};
 ghost use Rattle.std.specs.Arc.{arc_value};
-ghost use Rattle.stir_c.specs.Owned.{is_call, is_chain, is_world, owned_call, owned_chain, owned_world, view_of_call, view_of_chain};
+ghost use Rattle.stir_c.specs.Owned.{is_call, is_chain, is_world, owned_call, owned_chain, owned_world, view_of_call};
+ghost use Rattle.stir_c.specs.Owned.{view_of_chain};
 
 use crate::owner::{HeldCall, HeldChain, Owner};
 use open_calls::OpenWorld;

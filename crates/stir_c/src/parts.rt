@@ -8,8 +8,8 @@ use chain_lines::{Part, certificate_part};
 use std::alloc::{AllocError, Global};
 use x509_profile::{CertChainFault, read_chain};
 
-/// A part of the certificate of this number, counted from 1, of those that the bytes are one after another. `None` if there is no such certificate, no part
-/// of this number, or nothing of this part in it. `AllocError` is the only error.
+/// A part of the certificate of this number, counted from 1, of those that the bytes are one after another. `None` if
+/// there is no such certificate, no part of this number, or nothing of this part in it. `AllocError` is the only error.
 #[tactic(auto, using(crate::proofs::PartLaws::no_part, crate::proofs::PartLaws::no_number, crate::proofs::PartLaws::no_certificate, crate::proofs::PartLaws::nothing, crate::proofs::PartLaws::something))]
 pub(crate) fn chain_part(
     alloc: Global,

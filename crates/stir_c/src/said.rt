@@ -45,14 +45,14 @@ const SIGNATURE: u32 = 9;
 #[repr(C)]
 #[derive(Clone, Copy)]
 pub struct Said {
-    /// 0: the call breaks no rule, or what was asked for is done. 1: it breaks a rule, or isn't signed. 2: an input is outside its grammar or
-    /// its limits. 3: memory ran out. 4: the room is too small, and nothing is written. 5: a handle is closed. 6: there is none of this number or
-    /// name.
+    /// 0: the call breaks no rule, or what was asked for is done. 1: it breaks a rule, or isn't signed. 2: an input is
+    /// outside its grammar or its limits. 3: memory ran out. 4: the room is too small, and nothing is written. 5: a
+    /// handle is closed. 6: there is none of this number or name.
     pub kind: u32,
     /// Of kind 2, which input.
     pub input: u32,
-    /// Of kind 1, the first rule that is broken, its response code, and where: the Identity field, counted from 1, and the part of it; or of what
-    /// isn't signed, the number of the cause.
+    /// Of kind 1, the first rule that is broken, its response code, and where: the Identity field, counted from 1, and
+    /// the part of it; or of what isn't signed, the number of the cause.
     pub rule: u32,
     pub code: u32,
     pub field: u32,

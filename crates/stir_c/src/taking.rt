@@ -128,7 +128,8 @@ impl CallHandle {
         chains: CallChains,
     ) -> Result<CallHandle, AllocError>
         requires one_each { length chains ≡ length (judged_in call) }
-        ensures { IfOk result (λ h. call_held h ≡ Some (record { world = arc_value world; call = call; chains = chains })) }
+        ensures { IfOk result
+            (λ h. call_held h ≡ Some (record { world = arc_value world; call = call; chains = chains })) }
     {
         let owner = Box::new(
             alloc,

@@ -10,7 +10,8 @@ pub(crate) struct Text {
     pub(crate) bytes: Vec<u8>,
 }
 
-/// Writes a text into the room, and leaves what is after it; false if the room is too small, and then it is left as it was.
+/// Writes a text into the room, and leaves what is after it; false if the room is too small, and then it is left as it
+/// was.
 pub(crate) fn write(text: &[u8], room: &mut [u8]) -> bool
     ensures { HasWritten text.now room.old room.new result }
 {

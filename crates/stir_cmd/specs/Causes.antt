@@ -3,7 +3,8 @@ use Rattle.std.specs.Prelude.{◌≡◌, ◌⊎◌, ℕ, ◌≤◌, List, codes,
 use Rattle.std.specs.Io.KnownBytes.{Appends}
 use Rattle.stir_outside.specs.Ending.{EndsAs, memory_line}
 use Rattle.stir_outside.specs.Count.{NotRisen}
-use Rattle.stir_words.specs.Order.{AskBy, DivertBy, DrillBy, ExplainBy, OnceBy, OrderView, RetargetBy, ShowCertificates, SignBy, VerifyBy}
+use Rattle.stir_words.specs.Order.{AskBy, DivertBy, DrillBy, ExplainBy, OnceBy, OrderView, RetargetBy, ShowCertificates}
+use Rattle.stir_words.specs.Order.{SignBy, VerifyBy}
 use Rattle.stir_cmd.specs.Outside.{IsUntouched, Outside}
 use Rattle.stir_cmd.specs.Course.{Course}
 use Rattle.stir_cmd.specs.Claiming.{once_course}

@@ -11,8 +11,8 @@ use Rattle.stir_cmd.specs.Course.{Course}
 use Rattle.stir_cmd.specs.Input.{Answering, answering_by, input_course}
 use Rattle.stir_cmd.specs.Outside.{Io, io_in}
 
--- The bytes are a text of tickets, and this is a line for each, of what came of them on a desk with so many slots a level. The status is 0 if
--- each was won, and else 1
+-- The bytes are a text of tickets, and this is a line for each, of what came of them on a desk with so many slots a
+-- level. The status is 0 if each was won, and else 1
 pub record ClaimsTickets (size : ℕ) (bytes text : List ℕ) (status : ℕ) : Type 0 where
   pub tickets : List (List ℕ)
   pub claims : List LiveClaim

@@ -1,4 +1,5 @@
--- What a command promises of a run. Each is said of what was around the program before the run and of what is there after it.
+-- What a command promises of a run. Each is said of what was around the program before the run and of what is there
+-- after it.
 use Rattle.std.specs.Prelude.{ℕ}
 use Rattle.stir_cmd.specs.Outside.{Outside}
 

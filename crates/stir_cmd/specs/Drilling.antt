@@ -9,7 +9,8 @@ use Rattle.stir_cmd.specs.Outside.{IsUntouched, Outside}
 -- what a run of the drill came to: no file and nothing of the input was read
 pub record CameDrill (drilling : DrillingView) (before now : Outside) (status : ℕ) : Type 0 where
   pub untouched : IsUntouched before now
-  pub ran : DrillRan drilling.seed drilling.count drilling.workers before.written now.written before.write_faults now.write_faults status
+  pub ran : DrillRan drilling.seed drilling.count drilling.workers before.written now.written
+      before.write_faults now.write_faults status
 
 -- the summary was written, of all calls of the drill and of nothing else
 abbrev pub WroteDrill : DrillingView → Outside → Outside → Type 0
@@ -21,7 +22,8 @@ drill_course drilling = record {
   Came = CameDrill drilling;
   Done = λ before now status. (status ≡ 0) × WroteDrill drilling before now;
   Unread = λ before now. ⊥;
-  Unwritten = λ before now. WroteFront drilling.seed drilling.count drilling.workers before.written now.written before.write_faults now.write_faults;
+  Unwritten = λ before now. WroteFront drilling.seed drilling.count drilling.workers before.written now.written
+      before.write_faults now.write_faults;
   Refused = λ before now. ⊥;
   Short = λ before now. WroteShort drilling.seed drilling.count drilling.workers before.written now.written;
   Answers = λ before now status. NotRisen before.write_faults now.write_faults → (status ≡ 0) ⊎ (status ≡ 6);

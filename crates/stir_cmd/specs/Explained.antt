@@ -1,5 +1,5 @@
--- The commands `explain` and `ask`. If shelf and input are told, what was written is what is explained of each call of the log, or what is
--- asked for all of them.
+-- The commands `explain` and `ask`. If shelf and input are told, what was written is what is explained of each call of
+-- the log, or what is asked for all of them.
 use Rattle.std.specs.Prelude.{◌≡◌, ℕ, ◌<◌, List, [], ◌∷◌}
 use Rattle.std.specs.Io.KnownBytes.{Appends}
 use Rattle.call_log.specs.Entry.{Entry}
@@ -40,16 +40,19 @@ EachCall P [] (answer ∷ answers) = ⊥
 EachCall P (call ∷ calls) [] = ⊥
 EachCall P (call ∷ calls) (answer ∷ answers) = P call answer × EachCall P calls answers
 
--- The bytes are a whole log. Each of its calls is explained by what the files say, up to the first rule that it breaks. These lines were written,
--- and nothing else, and the status says whether each line is `ok`. At a PASSporT whose file couldn't be read a line may say `unread`: at most as
--- often as the shelf's failed reads rose, and not at all if these stayed as they were, below their last value.
-pub record ExplainedLog (settings : Settings) (materials : Materials) (files : Files) (bytes : List ℕ) (before now : Outside) (status : ℕ) : Type 0 where
+-- The bytes are a whole log. Each of its calls is explained by what the files say, up to the first rule that it breaks.
+-- These lines were written, and nothing else, and the status says whether each line is `ok`. At a PASSporT whose file
+-- couldn't be read a line may say `unread`: at most as often as the shelf's failed reads rose, and not at all if these
+-- stayed as they were, below their last value.
+pub record ExplainedLog (settings : Settings) (materials : Materials) (files : Files) (bytes : List ℕ)
+    (before now : Outside) (status : ℕ) : Type 0 where
   pub calls : List Entry
   pub answers : List AnswerView
   pub log : LogText (start 0 0) bytes calls []
   pub each : EachCall (IsExplained (world_by materials files) settings) calls answers
   pub unread : AtMost (unread_in answers) before.counts.faults now.counts.faults
-  pub quiet : now.counts.faults ≡ before.counts.faults → before.counts.faults < last_count → EachCall (Explains (world_by materials files) settings) calls answers
+  pub quiet : now.counts.faults ≡ before.counts.faults → before.counts.faults < last_count
+      → EachCall (Explains (world_by materials files) settings) calls answers
   pub reported : Appends before.written now.written (texts_of answers)
   pub said : status ≡ report_status (all_well answers)
 
@@ -60,7 +63,8 @@ explain_over judging = record {
   Stands = λ files materials. MaterialsOf files judging materials;
   course = λ materials. let settings = settings_by judging.settings in
       answering_course (ExplainedBy (explainer_by settings materials)) (NeverStops (explainer_by settings materials))
-      (λ before now status. IfTold before.files before.left (λ files bytes. ExplainedLog settings materials files bytes before now status));
+      (λ before now status.
+      IfTold before.files before.left (λ files bytes. ExplainedLog settings materials files bytes before now status));
 }
 
 abbrev pub explain_course : JudgingView → Course
@@ -77,10 +81,12 @@ asker_by settings world = record {
 }
 
 -- The bytes are a whole log; and the lines of what is asked for its calls, each once, were written, and nothing else.
-pub record AskedLog (settings : Settings) (world : World) (files : Files) (bytes : List ℕ) (before now : Outside) : Type 0 where
+pub record AskedLog (settings : Settings) (world : World) (files : Files) (bytes : List ℕ)
+    (before now : Outside) : Type 0 where
   pub calls : List Entry
   pub log : LogText (start 0 0) bytes calls []
-  pub reported : Appends before.written now.written (Asks (asking_world (asker_by settings world).materials files) settings calls)
+  pub reported : Appends before.written now.written
+      (Asks (asking_world (asker_by settings world).materials files) settings calls)
 
 abbrev pub ask_over : AskingView → OverFiles
 ask_over words = record {
@@ -88,8 +94,8 @@ ask_over words = record {
   Read = World;
   Stands = λ files world. WorldOf files words world;
   course = λ world. let settings = settings_by words.settings in
-      answering_course (AskedBy (asker_by settings world)) (StopsAsking (asker_by settings world))
-      (λ before now status. (status ≡ 0) × IfTold before.files before.left (λ files bytes. AskedLog settings world files bytes before now));
+      answering_course (AskedBy (asker_by settings world)) (StopsAsking (asker_by settings world)) (λ before now status.
+      (status ≡ 0) × IfTold before.files before.left (λ files bytes. AskedLog settings world files bytes before now));
 }
 
 abbrev pub ask_course : AskingView → Course

@@ -1,5 +1,6 @@
 -- The command `retarget`: what it answers to a message.
-use Rattle.std.specs.Prelude.{unwrap_or, ◌≡◌, ⊤, ℕ, ◌⊎◌, Bool, true, false, List, [], ◌++◌, codes, is_some, Option, Some, Ok, Err}
+use Rattle.std.specs.Prelude.{unwrap_or, ◌≡◌, ⊤, ℕ, ◌⊎◌, Bool, true, false, List, [], ◌++◌, codes, is_some, Option}
+use Rattle.std.specs.Prelude.{Some, Ok, Err}
 use Rattle.stir_outside.specs.Files.{Files}
 use Rattle.stir_files.specs.Retargeting.{RetargetingOf, retargeting_files}
 use Rattle.stir_files.specs.declared.retargeting.RetargetingMaterials.{RetargetingMaterials}
@@ -27,9 +28,16 @@ use Rattle.stir_cmd.specs.Signing.{unsigned_line}
 
 -- where the call goes on, and by which key and certificate its diversion is signed
 abbrev pub hop_by : RetargetingView → HopView
-hop_by words = record { target = words.target; key = words.key; x5u = words.x5u; iat = words.iat; local = words.judging.settings.local }
+hop_by words = record {
+  target = words.target;
+  key = words.key;
+  x5u = words.x5u;
+  iat = words.iat;
+  local = words.judging.settings.local;
+}
 
--- by what a call is judged, what the answers say, the list of the holder's certificate, the settings and the moment of the words
+-- by what a call is judged, what the answers say, the list of the holder's certificate, the settings and the moment of
+-- the words
 abbrev pub place_with : RetargetingView → World → Held → CertView → PlaceView
 place_with words world answers leaf = record {
   materials = world;
@@ -118,12 +126,14 @@ pub record ScreensOut (place : PlaceView) (bytes text : List ℕ) (status : ℕ)
   pub line : text ≡ verdict_line (verdicts.Refused refused)
 
 -- They refuse nothing, the gateway sends the message on over the chains of its PASSporTs, and what goes on is written.
-pub record SendsOn (place : PlaceView) (hop : HopView) (told : Option Files) (faults_before faults_now : ℕ) (bytes text : List ℕ) (status : ℕ) : Type 0 where
+pub record SendsOn (place : PlaceView) (hop : HopView) (told : Option Files) (faults_before faults_now : ℕ)
+    (bytes text : List ℕ) (status : ℕ) : Type 0 where
   pub said : status ≡ 0
   pub over : IsOverChains place told faults_before faults_now hop bytes (λ (out : List ℕ). out) (Ok text)
 
 -- They refuse nothing, and the line of the gateway's fault is written.
-pub record HoldsBack (place : PlaceView) (hop : HopView) (told : Option Files) (faults_before faults_now : ℕ) (bytes text : List ℕ) (status : ℕ) : Type 0 where
+pub record HoldsBack (place : PlaceView) (hop : HopView) (told : Option Files) (faults_before faults_now : ℕ)
+    (bytes text : List ℕ) (status : ℕ) : Type 0 where
   pub said : status ≡ 1
   pub fault : HopFault
   pub no_memory : is_wanting fault ≡ false
@@ -134,15 +144,16 @@ pub record HoldsBack (place : PlaceView) (hop : HopView) (told : Option Files) (
 -- over the files that the shelf tells, with its counts of failed reads before and after
 abbrev pub GatewayGives : PlaceView → HopView → Option Files → ℕ → ℕ → List ℕ → List ℕ → ℕ → Type 0
 GatewayGives place hop told faults_before faults_now bytes text status =
-    ScreensOut place bytes text status
-    ⊎ (SendsOn place hop told faults_before faults_now bytes text status ⊎ HoldsBack place hop told faults_before faults_now bytes text status)
+    ScreensOut place bytes text status ⊎ (SendsOn place hop told faults_before faults_now bytes text status
+    ⊎ HoldsBack place hop told faults_before faults_now bytes text status)
 
 abbrev pub GatewayRefuses : List ℕ → ℕ → Type 0
 GatewayRefuses text status = (text ≡ too_long_line) × (status ≡ 1)
 
 -- a message of at most 65,535 bytes
 abbrev pub gateway_answering : PlaceView → HopView → Option Files → ℕ → ℕ → Answering
-gateway_answering place hop told faults_before faults_now = answering_by 65535 (GatewayGives place hop told faults_before faults_now) GatewayRefuses
+gateway_answering place hop told faults_before faults_now =
+    answering_by 65535 (GatewayGives place hop told faults_before faults_now) GatewayRefuses
 
 -- ---- the whole
 
@@ -151,7 +162,8 @@ gateway_over words = record {
   named = retargeting_files words;
   Read = RetargetingMaterials;
   Stands = λ files materials. RetargetingOf files words materials;
-  course = λ materials. shelf_course (λ before now. gateway_answering (place_by words materials) (hop_by words) before.files before.counts.faults now.counts.faults);
+  course = λ materials. shelf_course (λ before now.
+      gateway_answering (place_by words materials) (hop_by words) before.files before.counts.faults now.counts.faults);
 }
 
 -- what `retarget` promises

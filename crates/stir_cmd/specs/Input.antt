@@ -1,5 +1,6 @@
--- Commands over a whole input: it is read to its end, or as far as to show that it is too long, and then one answer comes, a text and a status.
--- `show` is such a command, and `sign`, `divert` and `retarget` are after their files (this project's own rule).
+-- Commands over a whole input: it is read to its end, or as far as to show that it is too long, and then one answer
+-- comes, a text and a status. `show` is such a command, and `sign`, `divert` and `retarget` are after their files (this
+-- project's own rule).
 use Rattle.std.specs.Prelude.{◌≡◌, ℕ, ◌+◌, ◌≤◌, ◌<◌, ◌⊎◌, List, length, Option, Some}
 use Rattle.std.specs.Io.KnownBytes.{Appends, Consumes, IsAtEnd}
 use Rattle.log_run.specs.Ending.{failed_line}
@@ -45,7 +46,8 @@ pub record RepliedLong (command : Answering) (before now : Io) (text : List ℕ)
   pub gives : command.Long text status
 
 abbrev pub IsReply : Answering → Io → Io → List ℕ → ℕ → Type 0
-IsReply command before now text status = Replied command before now text status ⊎ RepliedLong command before now text status
+IsReply command before now text status =
+    Replied command before now text status ⊎ RepliedLong command before now text status
 
 -- the input couldn't be read
 pub record InputFailed (before now : Io) (text : List ℕ) (status : ℕ) : Type 0 where
@@ -59,9 +61,11 @@ pub record InputShort (text : List ℕ) (status : ℕ) : Type 0 where
   pub said : status ≡ 6
 
 abbrev pub IsSaid : Answering → Io → Io → List ℕ → ℕ → Type 0
-IsSaid command before now text status = IsReply command before now text status ⊎ (InputFailed before now text status ⊎ InputShort text status)
+IsSaid command before now text status =
+    IsReply command before now text status ⊎ (InputFailed before now text status ⊎ InputShort text status)
 
--- what a run came to: of the input no more was taken than the longest and one byte, and the text was written, or a prefix of it
+-- what a run came to: of the input no more was taken than the longest and one byte, and the text was written, or a
+-- prefix of it
 pub record RanInput (command : Answering) (before now : Io) (status : ℕ) : Type 0 where
   pub limited : TakesAtMost (command.most + 1) before.left now.left
   pub text : List ℕ
@@ -95,12 +99,15 @@ MayRefuse command status = (text : List ℕ) × command.Long text status
 
 -- which status comes, if the bytes of the input are told and nothing fails outside
 pub record InputComplete (command : Answering) (before now : Outside) (status : ℕ) : Type 0 where
-  pub short : (bytes : List ℕ) → before.left ≡ Some bytes → length bytes ≤ command.most → IsQuiet before now → MayGive command bytes status ⊎ (status ≡ 6)
-  pub long : (bytes : List ℕ) → before.left ≡ Some bytes → command.most < length bytes → IsQuiet before now → MayRefuse command status ⊎ (status ≡ 6)
+  pub short : (bytes : List ℕ) → before.left ≡ Some bytes → length bytes ≤ command.most → IsQuiet before now
+      → MayGive command bytes status ⊎ (status ≡ 6)
+  pub long : (bytes : List ℕ) → before.left ≡ Some bytes → command.most < length bytes → IsQuiet before now
+      → MayRefuse command status ⊎ (status ≡ 6)
 
 -- the input was read to its end, or is too long, and is refused for that
 abbrev pub InputThrough : Answering → Io → Io → ℕ → Type 0
-InputThrough command before now status = IsAtEnd now.left ⊎ ((text : List ℕ) × RepliedLong command before now text status)
+InputThrough command before now status =
+    IsAtEnd now.left ⊎ ((text : List ℕ) × RepliedLong command before now text status)
 
 -- no file was read, and this is what a run came to
 pub record CameInput (command : Answering) (before now : Outside) (status : ℕ) : Type 0 where
@@ -120,7 +127,8 @@ input_course command = record {
   Says = λ before now status. Answered command (io_in before) (io_in now) status;
 }
 
--- The same of a command that reads files for its answer: what it may answer is said by what is around the program before it and after it.
+-- The same of a command that reads files for its answer: what it may answer is said by what is around the program
+-- before it and after it.
 abbrev pub shelf_course : (Outside → Outside → Answering) → Course
 shelf_course command = record {
   Came = λ before now status. RanInput (command before now) (io_in before) (io_in now) status;

@@ -1,5 +1,6 @@
--- What any two runs of `verify` on one worker have in common that judge parts of one log by the same files, as a map, whatever ended them: a whole log, a
--- fault of it, or a source that failed. The lines of the run that judged less are the first lines of the other.
+-- What any two runs of `verify` on one worker have in common that judge parts of one log by the same files, as a map,
+-- whatever ended them: a whole log, a fault of it, or a source that failed. The lines of the run that judged less are
+-- the first lines of the other.
 use Rattle.std.specs.Prelude.{◌≡◌, ◌⊎◌, ℕ, ◌+◌, ◌≤◌, Bool, List, [], ◌++◌, length, Option, Some, None}
 use Rattle.std.specs.Io.KnownBytes.{Appends, Consumes}
 use Rattle.call_log.specs.Entry.{Entry}
@@ -30,7 +31,8 @@ pub record EndsWhole (log bytes : List ℕ) (good : Bool) (status : ℕ) (line :
   pub none : line ≡ []
 
 -- 3: what was taken of it before the source failed
-pub record EndsFailed (log : List ℕ) (left : Option (List ℕ)) (bytes : List ℕ) (status : ℕ) (line : List ℕ) : Type 0 where
+pub record EndsFailed (log : List ℕ) (left : Option (List ℕ)) (bytes : List ℕ) (status : ℕ)
+    (line : List ℕ) : Type 0 where
   pub failed : status ≡ 3
   pub taken : Consumes (Some log) left bytes
   pub says : line ≡ failed_line
@@ -42,7 +44,8 @@ pub record EndsFaulty (log bytes : List ℕ) (place status : ℕ) (line : List �
   pub says : line ≡ refused_line place
 
 abbrev pub EndsSo : List ℕ → Option (List ℕ) → List ℕ → Bool → ℕ → ℕ → List ℕ → Type 0
-EndsSo log left bytes good place status line = EndsWhole log bytes good status line ⊎ (EndsFailed log left bytes status line ⊎ EndsFaulty log bytes place status line)
+EndsSo log left bytes good place status line = EndsWhole log bytes good status line
+    ⊎ (EndsFailed log left bytes status line ⊎ EndsFaulty log bytes place status line)
 
 -- ---- what was written
 
@@ -51,8 +54,8 @@ abbrev pub ClosedBy : Option (List ℕ) → List ℕ → Type 0
 ClosedBy None closing = closing ≡ []
 ClosedBy (Some name) closing = (state : StateView) × (closing ≡ state_text state)
 
--- The bytes of the log that were judged are these calls and what is no further entry. A line was written for each of the calls, then what closes the
--- report, then the line of the fault, and nothing else.
+-- The bytes of the log that were judged are these calls and what is no further entry. A line was written for each of
+-- the calls, then what closes the report, then the line of the fault, and nothing else.
 pub record Reported (verifying : VerifyingView) (log : List ℕ) (before now : Outside) (status : ℕ) : Type 0 where
   pub passed : Passed
   pub bytes : List ℕ
@@ -73,8 +76,10 @@ pub record Reported (verifying : VerifyingView) (log : List ℕ) (before now : O
 abbrev pub HasReport : ℕ → Type 0
 HasReport status = (status ≤ 1) ⊎ ((status ≡ 3) ⊎ (status ≡ 5))
 
--- a run over the same files, as a map, and this log that kept what it promises, ended with 0, 1, 3 or 5, and in which no read of the shelf failed
-pub record RanOverThese (verifying : VerifyingView) (files : Files) (log : List ℕ) (before now : Outside) (status : ℕ) : Type 0 where
+-- a run over the same files, as a map, and this log that kept what it promises, ended with 0, 1, 3 or 5, and in which
+-- no read of the shelf failed
+pub record RanOverThese (verifying : VerifyingView) (files : Files) (log : List ℕ) (before now : Outside)
+    (status : ℕ) : Type 0 where
   pub others : Files
   pub told : before.files ≡ Some others
   pub same_files : AreOneMap files others
@@ -85,31 +90,38 @@ pub record RanOverThese (verifying : VerifyingView) (files : Files) (log : List 
 
 -- if the other's bytes go on from these, so do its outcomes
 abbrev pub GoesOn : List ℕ → List Outcome → List ℕ → List Outcome → Type 0
-GoesOn bytes outcomes others later = (more : List ℕ) → others ≡ bytes ++ more → (behind : List Outcome) × (later ≡ outcomes ++ behind)
+GoesOn bytes outcomes others later = (more : List ℕ) → others ≡ bytes ++ more
+    → (behind : List Outcome) × (later ≡ outcomes ++ behind)
 
 -- both ended with 0 or 1, or with one status
 abbrev pub EndAlike : ℕ → ℕ → Type 0
 EndAlike status other = ((status ≤ 1) × (other ≤ 1)) ⊎ (status ≡ other)
 
--- The calls that both judged have the same lines; and if both judged the same bytes and ended alike, they wrote the same and ended with one status.
-pub record AreOnePrefix (verifying : VerifyingView) (log : List ℕ) (before now : Outside) (status : ℕ) (mine : Reported verifying log before now status) (other_log : List ℕ)
-    (other other_now : Outside) (other_status : ℕ) : Type 0 where
+-- The calls that both judged have the same lines; and if both judged the same bytes and ended alike, they wrote the
+-- same and ended with one status.
+pub record AreOnePrefix (verifying : VerifyingView) (log : List ℕ) (before now : Outside) (status : ℕ)
+    (mine : Reported verifying log before now status) (other_log : List ℕ) (other other_now : Outside)
+    (other_status : ℕ) : Type 0 where
   pub yours : Reported verifying other_log other other_now other_status
   pub from : mine.passed ≡ yours.passed
   pub first : GoesOn mine.bytes mine.outcomes yours.bytes yours.outcomes
   pub turned : GoesOn yours.bytes yours.outcomes mine.bytes mine.outcomes
-  pub same : mine.bytes ≡ yours.bytes → EndAlike status other_status → AreOneReport before now status other other_now other_status
+  pub same : mine.bytes ≡ yours.bytes → EndAlike status other_status
+      → AreOneReport before now status other other_now other_status
 
 -- so it is for each other run over these files, whatever its log
-pub record IsOnePrefix (verifying : VerifyingView) (files : Files) (log : List ℕ) (before now : Outside) (status : ℕ) : Type 0 where
+pub record IsOnePrefix (verifying : VerifyingView) (files : Files) (log : List ℕ) (before now : Outside)
+    (status : ℕ) : Type 0 where
   pub mine : Reported verifying log before now status
-  pub with_each : (other_log : List ℕ) (other other_now : Outside) (other_status : ℕ) → RanOverThese verifying files other_log other other_now other_status
+  pub with_each : (other_log : List ℕ) (other other_now : Outside) (other_status : ℕ)
+      → RanOverThese verifying files other_log other other_now other_status
       → AreOnePrefix verifying log before now status mine other_log other other_now other_status
 
 -- a named file is refused: each other run over these files wrote the same
 pub record IsOneStop (verifying : VerifyingView) (files : Files) (before now : Outside) (status : ℕ) : Type 0 where
   pub refused : status ≡ 5
-  pub with_each : (other_log : List ℕ) (other other_now : Outside) (other_status : ℕ) → RanOverThese verifying files other_log other other_now other_status
+  pub with_each : (other_log : List ℕ) (other other_now : Outside) (other_status : ℕ)
+      → RanOverThese verifying files other_log other other_now other_status
       → AreOneReport before now status other other_now other_status
 
 -- the files that the words name
@@ -118,12 +130,16 @@ named_by judging None = files_of judging
 named_by judging (Some name) = going_files judging name
 
 -- if none of them has a fault, and if one has
-pub record IsOneBeginning (verifying : VerifyingView) (before now : Outside) (status : ℕ) (files : Files) (log : List ℕ) : Type 0 where
-  pub judged : first_fault files (named_by verifying.judging verifying.state) ≡ None → IsOnePrefix verifying files log before now status
-  pub stopped : (stop : Stop) → first_fault files (named_by verifying.judging verifying.state) ≡ Some stop → IsOneStop verifying files before now status
+pub record IsOneBeginning (verifying : VerifyingView) (before now : Outside) (status : ℕ) (files : Files)
+    (log : List ℕ) : Type 0 where
+  pub judged : first_fault files (named_by verifying.judging verifying.state) ≡ None
+      → IsOnePrefix verifying files log before now status
+  pub stopped : (stop : Stop) → first_fault files (named_by verifying.judging verifying.state) ≡ Some stop
+      → IsOneStop verifying files before now status
 
 -- so it is of a run on one worker that ended with 0, 1, 3 or 5, if no read of the shelf failed
 abbrev pub GivesOnePrefix : Option OrderView → Outside → Outside → ℕ → Type 0
-GivesOnePrefix (Some (VerifyBy verifying)) before now status = verifying.workers ≡ 1 → HasReport status → NotRisen before.counts.faults now.counts.faults
+GivesOnePrefix (Some (VerifyBy verifying)) before now status = verifying.workers ≡ 1 → HasReport status
+    → NotRisen before.counts.faults now.counts.faults
     → IfTold before.files before.left (IsOneBeginning verifying before now status)
 GivesOnePrefix other before now status = Unit {0}

@@ -1,4 +1,5 @@
--- What any two runs of `drill` with one seed and one count have in common, on however many workers: they write one summary.
+-- What any two runs of `drill` with one seed and one count have in common, on however many workers: they write one
+-- summary.
 use Rattle.std.specs.Prelude.{ℕ, ◌≤◌, List, Option, Some}
 use Rattle.std.specs.Io.KnownBytes.{Appends}
 use Rattle.drill.specs.Drilled.{WroteSummary, config_on}
@@ -18,6 +19,8 @@ pub record AreOneSummary (before now other other_now : Outside) : Type 0 where
   pub other_written : Appends other.written other_now.written text
 
 abbrev pub GivesOneSummary : Option OrderView → Outside → Outside → ℕ → Type 0
-GivesOneSummary (Some (DrillBy drilling)) before now status = status ≤ 1 → IsDrillApart drilling → (workers : ℕ) (other other_now : Outside)
-    → WroteSummary drilling.seed drilling.count workers other.written other_now.written → AreOneSummary before now other other_now
+GivesOneSummary (Some (DrillBy drilling)) before now status = status ≤ 1 → IsDrillApart drilling
+    → (workers : ℕ) (other other_now : Outside)
+    → WroteSummary drilling.seed drilling.count workers other.written other_now.written
+    → AreOneSummary before now other other_now
 GivesOneSummary other before now status = Unit {0}

@@ -5,8 +5,8 @@ use Rattle.stir_outside.specs.declared.shelf.Shelf.{Ghosts as ShelfOf}
 use Rattle.stir_outside.specs.declared.sink.Sink.{Ghosts as SinkOf}
 use Rattle.stir_outside.specs.declared.source.Source.{Ghosts as SourceOf}
 
--- the files if the shelf tells them, and its counts; what is left of the input if it is told, and how often reads of it failed; what was
--- written if that is told, and how often writes failed
+-- the files if the shelf tells them, and its counts; what is left of the input if it is told, and how often reads of it
+-- failed; what was written if that is told, and how often writes failed
 pub record Outside : Type 0 where
   pub files : Option Files
   pub counts : Counts
@@ -16,12 +16,19 @@ pub record Outside : Type 0 where
   pub write_faults : ℕ
 
 abbrev pub outside : Option Files → Counts → Option (List ℕ) → ℕ → Option (List ℕ) → ℕ → Outside
-outside files counts left reads written writes =
-    record { files = files; counts = counts; left = left; read_faults = reads; written = written; write_faults = writes }
+outside files counts left reads written writes = record {
+  files = files;
+  counts = counts;
+  left = left;
+  read_faults = reads;
+  written = written;
+  write_faults = writes;
+}
 
 -- of a shelf, a source and a sink
 abbrev pub outside_of : {S I O : Type 0} → ShelfOf S → SourceOf I → SinkOf O → S → I → O → Outside
-outside_of files bytes lines shelf input sink = outside (files.files shelf) (files.counts shelf) (bytes.left input) (bytes.faults input) (lines.written sink) (lines.faults sink)
+outside_of files bytes lines shelf input sink = outside (files.files shelf) (files.counts shelf) (bytes.left input)
+    (bytes.faults input) (lines.written sink) (lines.faults sink)
 
 -- of these the input and the output
 pub record Io : Type 0 where

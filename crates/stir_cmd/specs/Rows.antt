@@ -1,5 +1,5 @@
--- The lines that the program writes of a fault, row by row: which words each line has, and which number (this project's own format). `hop_line`,
--- `fault_line`, `claim_lines` and their kin say the same as functions.
+-- The lines that the program writes of a fault, row by row: which words each line has, and which number (this project's
+-- own format). `hop_line`, `fault_line`, `claim_lines` and their kin say the same as functions.
 use Rattle.std.specs.Prelude.{◌≡◌, ⊤, ℕ, suc, List, [], ◌∷◌, ◌++◌, length, slice_index, true, codes, Some}
 use Rattle.std.specs.Fmt.{decimal}
 use Rattle.std.specs.Option.{option_map}
@@ -46,17 +46,18 @@ place_word bad = decimal bad.field ++ (46 ∷ decimal bad.part)
 -- `refused CODE RULE PLACE`, and `unread - 10 PLACE`
 abbrev pub IsVerdictLine : Verdict → List ℕ → Type 0
 IsVerdictLine verdicts.Passed line = ⊤
-IsVerdictLine (verdicts.Refused refused) line =
-    line ≡ line_by (codes "refused" ∷ decimal (code_of refused.rule) ∷ decimal refused.rule ∷ place_word refused.place ∷ [])
-IsVerdictLine (verdicts.Unread bad) line = line ≡ line_by (codes "unread" ∷ codes "-" ∷ codes "10" ∷ place_word bad ∷ [])
+IsVerdictLine (verdicts.Refused refused) line = line ≡ line_by (codes "refused" ∷ decimal (code_of refused.rule)
+    ∷ decimal refused.rule ∷ place_word refused.place ∷ [])
+IsVerdictLine (verdicts.Unread bad) line =
+    line ≡ line_by (codes "unread" ∷ codes "-" ∷ codes "10" ∷ place_word bad ∷ [])
 IsVerdictLine (verdicts.Unasked bad) line = ⊤
 
 -- `hop fault K`
 abbrev pub hop_words : List ℕ → List (List ℕ)
 hop_words number = codes "hop" ∷ codes "fault" ∷ number ∷ []
 
--- the line of each fault that comes: the target gives no number, the call has been there, there is no room for one more diversion, what goes on would be
--- too long, the holder may not speak for the number
+-- the line of each fault that comes: the target gives no number, the call has been there, there is no room for one more
+-- diversion, what goes on would be too long, the holder may not speak for the number
 abbrev pub IsHopLine : List ℕ → HopFault → List ℕ → Type 0
 IsHopLine key (faults.Verdict verdict) line = IsVerdictLine verdict line
 IsHopLine key faults.Target line = line ≡ line_by (hop_words (codes "21"))
@@ -83,7 +84,8 @@ rows_from number (claim ∷ claims) = line_by (decimal number ∷ claim_words cl
 
 -- ---- `ask`
 
--- a question that an answers file can confirm: an uncompressed point (SEC 1, section 2.3.3), a SHA-256, and a signature of 64 bytes
+-- a question that an answers file can confirm: an uncompressed point (SEC 1, section 2.3.3), a SHA-256, and a signature
+-- of 64 bytes
 pub record CanBeConfirmed (asked : QuestionView) : Type 0 where
   pub key : IsBytes asked.key
   pub key_size : length asked.key ≡ 65

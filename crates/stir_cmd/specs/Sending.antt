@@ -25,7 +25,8 @@ use Rattle.retarget.specs.declared.fault.HopFault.{HopFault}
 use Rattle.retarget.specs.declared.fault.HopFault.TheVariants as faults
 use Rattle.stir_cmd.specs.declared.sending.Place.{Place}
 
--- by what calls are judged, what the answers say, the entries of the holder's list, the settings, and the moment at which the message came
+-- by what calls are judged, what the answers say, the entries of the holder's list, the settings, and the moment at
+-- which the message came
 pub record PlaceView : Type 0 where
   pub materials : Materials
   pub answers : Held
@@ -55,18 +56,23 @@ pub record IsScreenedOut {X : Type 0} (place : PlaceView) (bytes : List ℕ) (re
   pub answer : result ≡ Err (faults.Verdict (verdicts.Refused refused))
 
 -- what the gateway promises of its answer over these chain states
-pub record IsAnswerOf {X : Type 0} (place : PlaceView) (hop : HopView) (bytes : List ℕ) (readings : List Reading) (states : List State) (seen : X → List ℕ) (result : Result X HopFault) : Type 0 where
-  pub finished : IsFinished (held_says place.answers) place.materials.table place.moment readings states 0 0 (verdict_of result)
+pub record IsAnswerOf {X : Type 0} (place : PlaceView) (hop : HopView) (bytes : List ℕ) (readings : List Reading)
+    (states : List State) (seen : X → List ℕ) (result : Result X HopFault) : Type 0 where
+  pub finished : IsFinished (held_says place.answers) place.materials.table place.moment readings
+      states 0 0 (verdict_of result)
   pub no_pass : IfErr result NamesNoPass
   pub exact : GivesOnward seen bytes readings hop (holder_at place) (held_signs place.answers) result
-  pub written : IfOk result (λ out. IsRetargeted bytes readings hop (holder_at place) (held_signs place.answers) (seen out))
-  pub causes : IfErr result (λ fault. CausedOnward bytes readings hop (holder_at place) (held_signs place.answers) fault)
+  pub written : IfOk result
+      (λ out. IsRetargeted bytes readings hop (holder_at place) (held_signs place.answers) (seen out))
+  pub causes : IfErr result
+      (λ fault. CausedOnward bytes readings hop (holder_at place) (held_signs place.answers) fault)
   pub next : IfOk result (λ out. BreaksNone (seen out) hop (holder_at place) (held_says place.answers) readings states)
   pub link : IfOk result (λ out. TellsOfDiversion bytes readings hop (seen out))
 
--- they refuse nothing; and this is the gateway's answer over chain states, each of which is right over the files that the shelf tells. One is unknown only if
--- a read of the shelf failed, and was counted
-pub record IsOverChains {X : Type 0} (place : PlaceView) (told : Option Files) (faults_before faults_now : ℕ) (hop : HopView) (bytes : List ℕ) (seen : X → List ℕ) (result : Result X HopFault) : Type 0 where
+-- they refuse nothing; and this is the gateway's answer over chain states, each of which is right over the files that
+-- the shelf tells. One is unknown only if a read of the shelf failed, and was counted
+pub record IsOverChains {X : Type 0} (place : PlaceView) (told : Option Files) (faults_before faults_now : ℕ)
+    (hop : HopView) (bytes : List ℕ) (seen : X → List ℕ) (result : Result X HopFault) : Type 0 where
   pub early : ◌≡◌ {A = Option Refusal} (first early_rules (call_at place bytes)) None
   pub states : List State
   pub counted : length states ≡ length (in_call_order (call_at place bytes))
@@ -76,18 +82,21 @@ pub record IsOverChains {X : Type 0} (place : PlaceView) (told : Option Files) (
   pub answer : IsAnswerOf place hop bytes (in_call_order (call_at place bytes)) states seen result
 
 -- of bytes of which the rules of the call hold: the answer of the gateway, or out of memory
-abbrev pub IsSentScreened : {X : Type 0} → PlaceView → Option Files → ℕ → ℕ → HopView → List ℕ → (X → List ℕ) → Result X HopFault → Type 0
-IsSentScreened place told faults_before faults_now hop bytes seen result = IsOverChains place told faults_before faults_now hop bytes seen result ⊎ (result ≡ Err faults.Memory)
+abbrev pub IsSentScreened : {X : Type 0} → PlaceView → Option Files → ℕ → ℕ → HopView → List ℕ → (X → List ℕ)
+    → Result X HopFault → Type 0
+IsSentScreened place told faults_before faults_now hop bytes seen result =
+    IsOverChains place told faults_before faults_now hop bytes seen result ⊎ (result ≡ Err faults.Memory)
 
 -- the answer of the rules, that of the gateway, or out of memory
-abbrev pub IsSentOn : {X : Type 0} → PlaceView → Option Files → ℕ → ℕ → HopView → List ℕ → (X → List ℕ) → Result X HopFault → Type 0
+abbrev pub IsSentOn : {X : Type 0} → PlaceView → Option Files → ℕ → ℕ → HopView → List ℕ → (X → List ℕ)
+    → Result X HopFault → Type 0
 IsSentOn place told faults_before faults_now hop bytes seen result =
     IsScreenedOut place bytes result ⊎ IsSentScreened place told faults_before faults_now hop bytes seen result
 
 -- ---- the faults that come
 
--- a call that passed is no fault, and no question is left open, since the provider of an answers file never fails; and a chain is unknown only if a read
--- of the shelf failed, and was counted
+-- a call that passed is no fault, and no question is left open, since the provider of an answers file never fails; and
+-- a chain is unknown only if a read of the shelf failed, and was counted
 abbrev pub MayBe : ℕ → ℕ → Verdict → Type 0
 MayBe faults_before faults_now verdicts.Passed = ⊥
 MayBe faults_before faults_now (verdicts.Refused refused) = ⊤

@@ -18,7 +18,8 @@ pub record Shows (bytes text : List ℕ) : Type 0 where
 abbrev pub IsNoChain : List ℕ → Type 0
 IsNoChain bytes = (certificates : List CertView) → Chain bytes certificates → ⊥
 
--- A chain is shown, and ends with 0; any other bytes are refused, and end with 5; and the text is the one of these bytes.
+-- A chain is shown, and ends with 0; any other bytes are refused, and end with 5; and the text is the one of these
+-- bytes.
 pub record ShowGives (bytes text : List ℕ) (status : ℕ) : Type 0 where
   pub says : ((status ≡ 0) × Shows bytes text) ⊎ ((status ≡ 5) × IsNoChain bytes)
   pub text_is : text ≡ (shown bytes).text

@@ -1,5 +1,6 @@
 -- The commands `sign` and `divert`: what they answer to a message.
-use Rattle.std.specs.Prelude.{unwrap_or, ◌≡◌, ⊤, ℕ, ◌⊎◌, true, List, [], ◌++◌, codes, is_some, Option, Some, None, Result, Ok, Err}
+use Rattle.std.specs.Prelude.{unwrap_or, ◌≡◌, ⊤, ℕ, ◌⊎◌, true, List, [], ◌++◌, codes, is_some, Option, Some, None}
+use Rattle.std.specs.Prelude.{Result, Ok, Err}
 use Rattle.hex.specs.Hex.{encode_lower}
 use Rattle.auth_service.specs.Answer.{decided}
 use Rattle.auth_service.specs.Causes.{IsCaused}
@@ -29,7 +30,13 @@ pub record SignCommand : Type 0 where
 -- the origin of a call, in the form that the words say
 abbrev pub signing_command : SigningView → SignCommand
 signing_command words = record {
-  order = record { shape = shape_of words.form; key = words.signer.key; x5u = words.signer.x5u; iat = words.signer.iat; local = words.signer.local };
+  order = record {
+    shape = shape_of words.form;
+    key = words.signer.key;
+    x5u = words.signer.x5u;
+    iat = words.signer.iat;
+    local = words.signer.local;
+  };
   answers = words.signer.answers;
   holder = words.signer.holder;
 }
@@ -62,7 +69,8 @@ abbrev pub signed_by : OrderView → SigningMaterials → List ℕ → Result (L
 signed_by order materials bytes = signed bytes order (holder_by materials.holder) (held_signs materials.answers)
 
 -- this message is written, and what is promised of it holds
-pub record GivesMessage (order : OrderView) (holder : Option HolderView) (signs : List ℕ → List ℕ → Option (List ℕ)) (bytes out : List ℕ) : Type 0 where
+pub record GivesMessage (order : OrderView) (holder : Option HolderView) (signs : List ℕ → List ℕ → Option (List ℕ))
+    (bytes out : List ℕ) : Type 0 where
   pub gives : signed bytes order holder signs ≡ Ok out
   pub says : IsSigned bytes order holder signs out
 
@@ -71,7 +79,8 @@ abbrev pub IsDecided : SignFault → Type 0
 IsDecided fault = decided fault ≡ Some fault
 
 -- this fault comes, and it has its cause
-pub record GivesFault (order : OrderView) (holder : Option HolderView) (signs : List ℕ → List ℕ → Option (List ℕ)) (bytes : List ℕ) (fault : SignFault) : Type 0 where
+pub record GivesFault (order : OrderView) (holder : Option HolderView) (signs : List ℕ → List ℕ → Option (List ℕ))
+    (bytes : List ℕ) (fault : SignFault) : Type 0 where
   pub decided : IsDecided fault
   pub gives : signed bytes order holder signs ≡ Err fault
   pub caused : IsCaused bytes order holder signs fault
@@ -81,7 +90,8 @@ abbrev pub GivesWhy : OrderView → Option HolderView → (List ℕ → List ℕ
 GivesWhy order holder signs bytes faults.Form = GivesFault order holder signs bytes faults.Form
 GivesWhy order holder signs bytes faults.NoNumber = GivesFault order holder signs bytes faults.NoNumber
 GivesWhy order holder signs bytes faults.Authority = GivesFault order holder signs bytes faults.Authority
-GivesWhy order holder signs bytes (faults.NoSignature digest) = GivesFault order holder signs bytes (faults.NoSignature digest)
+GivesWhy order holder signs bytes (faults.NoSignature digest) =
+    GivesFault order holder signs bytes (faults.NoSignature digest)
 GivesWhy order holder signs bytes faults.Provider = ⊥
 GivesWhy order holder signs bytes faults.Memory = ⊤
 
@@ -122,19 +132,22 @@ pub record RefusedFor (key : List ℕ) (fault : SignFault) (text : List ℕ) (st
 -- ---- what the commands answer to a message
 
 -- the message is signed, and what is signed of it is written
-pub record SignsMessage (order : OrderView) (materials : SigningMaterials) (bytes text : List ℕ) (status : ℕ) : Type 0 where
+pub record SignsMessage (order : OrderView) (materials : SigningMaterials) (bytes text : List ℕ)
+    (status : ℕ) : Type 0 where
   pub said : status ≡ 0
   pub gave : GivesMessage order (holder_by materials.holder) (held_signs materials.answers) bytes text
 
 -- one of the faults 1 to 4 comes, and its line is written
-pub record RefusesMessage (order : OrderView) (materials : SigningMaterials) (bytes text : List ℕ) (status : ℕ) : Type 0 where
+pub record RefusesMessage (order : OrderView) (materials : SigningMaterials) (bytes text : List ℕ)
+    (status : ℕ) : Type 0 where
   pub said : status ≡ 1
   pub fault : SignFault
   pub refuses : GivesFault order (holder_by materials.holder) (held_signs materials.answers) bytes fault
   pub line : text ≡ fault_line order.key fault
 
 abbrev pub SignGives : OrderView → SigningMaterials → List ℕ → List ℕ → ℕ → Type 0
-SignGives order materials bytes text status = SignsMessage order materials bytes text status ⊎ RefusesMessage order materials bytes text status
+SignGives order materials bytes text status =
+    SignsMessage order materials bytes text status ⊎ RefusesMessage order materials bytes text status
 
 -- bytes that are more than a message has are no message
 abbrev pub SignRefuses : List ℕ → ℕ → Type 0

@@ -1,4 +1,5 @@
--- The command `verify`: the log is judged by what four files say, and goes on from the state that a fifth one holds, if one is named.
+-- The command `verify`: the log is judged by what four files say, and goes on from the state that a fifth one holds, if
+-- one is named.
 use Rattle.std.specs.Prelude.{◌⊎◌, ℕ, List, Option, Some, None}
 use Rattle.call_log.specs.Log.{Passed, start}
 use Rattle.log_run.specs.Words.{Words}
@@ -19,18 +20,21 @@ use Rattle.stir_cmd.specs.OverFiles.{OverFiles, over_files}
 use Rattle.stir_cmd.specs.OverLog.{log_course, log_course_on}
 use Rattle.stir_cmd.specs.Stopping.{NoMemory}
 
--- what is said of the batches: rounds of 256 calls that were judged by what was read of the files, with the shelf's counts of failed reads and
--- of reads; the provider of signatures never fails
+-- what is said of the batches: rounds of 256 calls that were judged by what was read of the files, with the shelf's
+-- counts of failed reads and of reads; the provider of signatures never fails
 abbrev pub verify_words : Settings → ℕ → Materials → Outside → Outside → Words
-verify_words settings workers materials before now = words_by (basis_of settings workers materials) before.files (start 0 0) before.counts now.counts
+verify_words settings workers materials before now =
+    words_by (basis_of settings workers materials) before.files (start 0 0) before.counts now.counts
 
 -- what it says of the log is the headline
 abbrev pub judging_course : Settings → ℕ → Materials → Course
-judging_course settings workers materials = log_course (verify_words settings workers materials) (λ before now status. Unit {0})
+judging_course settings workers materials =
+    log_course (verify_words settings workers materials) (λ before now status. Unit {0})
 
 -- memory may run out for the service, before the input is begun
 abbrev pub RanBy : Settings → ℕ → Materials → Outside → Outside → ℕ → Type 0
-RanBy settings workers materials before now status = (judging_course settings workers materials).Came before now status ⊎ NoMemory before now status
+RanBy settings workers materials before now status =
+    (judging_course settings workers materials).Came before now status ⊎ NoMemory before now status
 
 abbrev pub verify_over : VerifyingView → OverFiles
 verify_over verifying = record {
@@ -48,15 +52,17 @@ start_at state = start state.call state.moment
 
 -- the same is said of the batches over what the state keeps, and which state is handed on: its text closes the report
 abbrev pub going_words : Settings → ℕ → GoingMaterials → Outside → Outside → Words
-going_words settings workers materials before now =
-    words_on (basis_of settings workers materials.judging) before.files (kept_by materials.state.kept) (start_at materials.state) before.counts now.counts
+going_words settings workers materials before now = words_on (basis_of settings workers materials.judging) before.files
+    (kept_by materials.state.kept) (start_at materials.state) before.counts now.counts
 
 abbrev pub going_course : Settings → ℕ → GoingMaterials → Course
-going_course settings workers materials = log_course_on (start_at materials.state) (going_words settings workers materials) (λ before now status. Unit {0})
+going_course settings workers materials =
+    log_course_on (start_at materials.state) (going_words settings workers materials) (λ before now status. Unit {0})
 
 -- memory may run out for the service, before the input is begun
 abbrev pub WentOn : Settings → ℕ → GoingMaterials → Outside → Outside → ℕ → Type 0
-WentOn settings workers materials before now status = (going_course settings workers materials).Came before now status ⊎ NoMemory before now status
+WentOn settings workers materials before now status =
+    (going_course settings workers materials).Came before now status ⊎ NoMemory before now status
 
 abbrev pub going_over : VerifyingView → List ℕ → OverFiles
 going_over verifying name = record {

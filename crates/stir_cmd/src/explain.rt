@@ -13,8 +13,8 @@ use stir_files::{Materials, read_materials, read_world};
 use stir_outside::{OneThread, Shelf, Sink, Source};
 use stir_words::{Asking, Judging};
 
-/// Reads the named files, and says of each call of the log which rules it meets, up to the first that it breaks; if a file can't be had, it
-/// says so.
+/// Reads the named files, and says of each call of the log which rules it meets, up to the first that it breaks; if a
+/// file can't be had, it says so.
 pub(crate) fn explain<R: Threads + Sync, S: Shelf, I: Source, O: Sink>(
     rt: &R,
     alloc: Global,
@@ -38,8 +38,8 @@ pub(crate) fn explain<R: Threads + Sync, S: Shelf, I: Source, O: Sink>(
     }
 }
 
-/// Reads the named files, and says what a provider of signatures is asked for the calls of the log, each question once; if a file can't be
-/// had, it says so.
+/// Reads the named files, and says what a provider of signatures is asked for the calls of the log, each question once;
+/// if a file can't be had, it says so.
 pub(crate) fn ask<R: Threads + Sync, S: Shelf, I: Source, O: Sink>(
     rt: &R,
     alloc: Global,

@@ -5,7 +5,8 @@ ghost use Rattle.stir_cmd.specs.Sending.{place_of};
 ghost use Rattle.stir_outside.specs.Stays.{ShelfStays};
 ghost use Rattle.stir_outside.specs.Status.{status_number};
 ghost use Rattle.stir_words.specs.Seen.{retargeting_view};
-ghost use Rattle.stir_cmd.specs.Gateway.{GatewayGives, GatewayRefuses, HasHopLine, HasVerdictLine, HeldFor, gateway_answering, gateway_course, hop_by, place_with, verdict_line};
+ghost use Rattle.stir_cmd.specs.Gateway.{GatewayGives, GatewayRefuses, HasHopLine, HasVerdictLine, HeldFor};
+ghost use Rattle.stir_cmd.specs.Gateway.{gateway_answering, gateway_course, hop_by, place_with, verdict_line};
 ghost use Rattle.stir_cmd.specs.Input.{RanInput};
 ghost use Rattle.stir_cmd.specs.InputCode.{RepliesTo};
 ghost use Rattle.stir_cmd.specs.Outside.{io_of, outside_of};
@@ -30,8 +31,8 @@ use verify_rules::Verdict;
 use verify_service::{Outcome, said};
 use x509_profile::Certificate;
 
-/// Reads the named files and then the message that the input is, judges it, and writes the message that goes on, or the line that says why there is
-/// none. Of the input no more is read than the longest message and one byte.
+/// Reads the named files and then the message that the input is, judges it, and writes the message that goes on, or the
+/// line that says why there is none. Of the input no more is read than the longest message and one byte.
 pub(crate) fn send_message<S: Shelf, I: Source, O: Sink>(
     alloc: Global,
     words: &Retargeting<'_>,
@@ -67,7 +68,8 @@ fn send_input<S: Shelf, I: Source, O: Sink>(
 ) -> u8
     requires hop { IsTrue (is_hop (hop_by (retargeting_view words.now))) }
     requires local { words.now.judging.settings.local ≡ place.now.settings.local }
-    ensures ran { RanInput (gateway_answering (place_of place.now) (hop_by (retargeting_view words.now)) (S.files shelf.old) (S.counts shelf.old).faults (S.counts shelf.new).faults)
+    ensures ran { RanInput (gateway_answering (place_of place.now) (hop_by (retargeting_view words.now))
+        (S.files shelf.old) (S.counts shelf.old).faults (S.counts shelf.new).faults)
         (io_of I.Source O.Sink input.old sink.old) (io_of I.Source O.Sink input.new sink.new) result }
     ensures shelf { ShelfStays S.Shelf shelf.old shelf.new }
 {
@@ -90,8 +92,9 @@ fn reply_to<S: Shelf, O: Sink>(
 ) -> u8
     requires hop { IsTrue (is_hop (hop_by (retargeting_view words.now))) }
     requires local { words.now.judging.settings.local ≡ place.now.settings.local }
-    ensures replies { RepliesTo (gateway_answering (place_of place.now) (hop_by (retargeting_view words.now)) (S.files shelf.old) (S.counts shelf.old).faults (S.counts shelf.new).faults) bytes.now
-        (O.written sink.old) (O.written sink.new) (O.faults sink.old) (O.faults sink.new) result }
+    ensures replies { RepliesTo (gateway_answering (place_of place.now) (hop_by (retargeting_view words.now))
+        (S.files shelf.old) (S.counts shelf.old).faults (S.counts shelf.new).faults) bytes.now (O.written sink.old)
+        (O.written sink.new) (O.faults sink.old) (O.faults sink.new) result }
     ensures shelf { ShelfStays S.Shelf shelf.old shelf.new }
 {
     if bytes.len() > MOST_BYTES {
@@ -120,8 +123,9 @@ fn answer<S: Shelf>(
 ) -> Answered
     requires hop { IsTrue (is_hop (hop_by (retargeting_view words.now))) }
     requires local { words.now.judging.settings.local ≡ place.now.settings.local }
-    ensures gives { IfOk result (λ reply. GatewayGives (place_of place.now) (hop_by (retargeting_view words.now)) (S.files shelf.old) (S.counts shelf.old).faults (S.counts shelf.new).faults
-        bytes.now reply.text (status_number reply.status)) }
+    ensures gives { IfOk result
+        (λ reply. GatewayGives (place_of place.now) (hop_by (retargeting_view words.now)) (S.files shelf.old)
+        (S.counts shelf.old).faults (S.counts shelf.new).faults bytes.now reply.text (status_number reply.status)) }
     ensures shelf { ShelfStays S.Shelf shelf.old shelf.new }
 {
     let hop = hop_for(words);

@@ -90,7 +90,8 @@ fn reply_to<R: Threads + Sync, C: InputCommand, O: Sink>(
 
 /// Writes an answer and gives its status, or says that memory ran out.
 pub(crate) fn write_answer<O: Sink>(sink: &mut O, answer: Answered) -> u8
-    ensures { EndsReply (O.written sink.old) (O.written sink.new) (O.faults sink.old) (O.faults sink.new) result answer }
+    ensures { EndsReply (O.written sink.old) (O.written sink.new) (O.faults sink.old)
+        (O.faults sink.new) result answer }
 {
     match answer {
         Ok(answer) => match write_whole(sink, answer.text()) {

@@ -15,8 +15,8 @@ ghost use Rattle.stir_cmd.specs.Signing.{fault_line, form_line};
 ghost use Rattle.stir_files.specs.Rows.{line_by};
 ghost use Rattle.stir_outside.specs.Status.{status_number};
 
-/// Which words and numbers the lines have that the program writes of a message that isn't signed or sent on, of tickets, of a question, and of an
-/// input that it can't take: row by row.
+/// Which words and numbers the lines have that the program writes of a message that isn't signed or sent on, of
+/// tickets, of a question, and of an input that it can't take: row by row.
 #[tactic(auto, using(crate::proofs::LineLaws::sign_lines, crate::proofs::LineLaws::hop_lines, crate::proofs::LineLaws::claims_are, crate::proofs::LineLaws::ask_row, crate::proofs::LineLaws::refused_are, crate::proofs::LineLaws::failed_are, crate::proofs::LineLaws::unread_are))]
 pub fn lines_law()
     ensures sign { (key : List ℕ) (fault : SignFault) → IsSignLine key fault (fault_line key fault) }
@@ -28,8 +28,10 @@ pub fn lines_law()
     ensures too_long { too_long_line ≡ line_by (codes "refused" ∷ codes "400" ∷ codes "1" ∷ codes "0.65535" ∷ []) }
     ensures long { long_line ≡ line_by (codes "long" ∷ codes "input" ∷ []) }
     // An input that is outside its grammar, or can't be read; and a file of certificates that can't be read.
-    ensures outside { (place : ℕ) → IsInputLine (refused_input place).text (status_number (refused_input place).status) (codes "refused" ∷ codes "input" ∷ decimal place ∷ []) 5 }
-    ensures refused { (place : ℕ) → refused_line place ≡ line_by (codes "refused" ∷ codes "input" ∷ decimal place ∷ []) }
+    ensures outside { (place : ℕ) → IsInputLine (refused_input place).text (status_number (refused_input place).status)
+        (codes "refused" ∷ codes "input" ∷ decimal place ∷ []) 5 }
+    ensures refused { (place : ℕ)
+        → refused_line place ≡ line_by (codes "refused" ∷ codes "input" ∷ decimal place ∷ []) }
     ensures failed { failed_line ≡ line_by (codes "read" ∷ codes "fault" ∷ codes "input" ∷ []) }
     ensures unread { (name : List ℕ) → unread_line name ≡ line_by (codes "read" ∷ codes "fault" ∷ name ∷ []) }
 {}

@@ -43,8 +43,8 @@ impl InputCommand for Claiming {
     }
 }
 
-/// Reads the input, which is to be at most 1,000,000 tickets and at most 67,108,864 bytes, claims them, and writes what came of each. No more
-/// is read than the longest input and one byte.
+/// Reads the input, which is to be at most 1,000,000 tickets and at most 67,108,864 bytes, claims them, and writes what
+/// came of each. No more is read than the longest input and one byte.
 pub(crate) fn once<R: Threads + Sync, I: Source, O: Sink>(
     rt: &R,
     alloc: Global,
@@ -52,7 +52,8 @@ pub(crate) fn once<R: Threads + Sync, I: Source, O: Sink>(
     input: &mut I,
     sink: &mut O,
 ) -> u8
-    ensures { RanInput (once_answering claiming.now.size) (io_of I.Source O.Sink input.old sink.old) (io_of I.Source O.Sink input.new sink.new) result }
+    ensures { RanInput (once_answering claiming.now.size) (io_of I.Source O.Sink input.old sink.old)
+        (io_of I.Source O.Sink input.new sink.new) result }
 {
     answer_input(rt, alloc, claiming, input, sink)
 }
@@ -61,7 +62,8 @@ pub(crate) fn once<R: Threads + Sync, I: Source, O: Sink>(
 #[tactic(auto, using(crate::proofs::OnceLaws::claims, crate::proofs::OnceLaws::refuses))]
 fn claimed<R: Threads + Sync>(rt: &R, alloc: Global, claiming: &Claiming, bytes: &[u8]) -> Answered
     requires short { length bytes.now ≤ 67108864 }
-    ensures gives { IfOk result (λ reply. OnceGives claiming.now.size bytes.now reply.text (status_number reply.status)) }
+    ensures gives { IfOk result
+        (λ reply. OnceGives claiming.now.size bytes.now reply.text (status_number reply.status)) }
 {
     match run_once(rt, alloc, claiming.size, claiming.workers, bytes) {
         Ok(report) => {

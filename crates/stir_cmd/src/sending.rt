@@ -1,5 +1,6 @@
-//! One message at the gateway: it is screened, the chains of its PASSporTs are read from a shelf, and it is sent on. It reads no message and writes no
-//! line: `gateway` does. The steps are those of `verify_rules`, `call_judging` and `retarget`.
+//! One message at the gateway: it is screened, the chains of its PASSporTs are read from a shelf, and it is sent on. It
+//! reads no message and writes no line: `gateway` does. The steps are those of `verify_rules`, `call_judging` and
+//! `retarget`.
 ghost use Rattle.std.specs.Prelude.{◌≡◌, Ok, IfErr, IsTrue};
 ghost use Rattle.stir_outside.specs.Stays.{ShelfStays};
 ghost use Rattle.verify_rules.specs.Rules.{early_rules};
@@ -31,8 +32,9 @@ pub(crate) struct Place<'a> {
     pub(crate) moment: u64,
 }
 
-/// Screens a message, reads the chains of its PASSporTs from the shelf, and sends it on: it gives the message that goes on, or why there is none. What
-/// the rules of the call refuse comes as [`HopFault::Verdict`] too. `Unasked` and `Provider` never come, since an answers file never fails.
+/// Screens a message, reads the chains of its PASSporTs from the shelf, and sends it on: it gives the message that goes
+/// on, or why there is none. What the rules of the call refuse comes as [`HopFault::Verdict`] too. `Unasked` and
+/// `Provider` never come, since an answers file never fails.
 ///
 /// The hop is one that [`Hop::is_valid`] takes, and numbers as the settings do.
 pub(crate) fn send_on<S: Shelf>(
@@ -44,7 +46,8 @@ pub(crate) fn send_on<S: Shelf>(
 ) -> Result<Vec<u8>, HopFault>
     requires hop { IsTrue (is_hop (hop_of hop.now)) }
     requires local { hop.now.local ≡ place.now.settings.local }
-    ensures sent { IsSentOn (place_of place.now) (S.files shelf.old) (S.counts shelf.old).faults (S.counts shelf.new).faults (hop_of hop.now) bytes.now (λ out. out.items) result }
+    ensures sent { IsSentOn (place_of place.now) (S.files shelf.old) (S.counts shelf.old).faults
+        (S.counts shelf.new).faults (hop_of hop.now) bytes.now (λ out. out.items) result }
     // That a chain is unknown is answered only if a read of the shelf failed, and was counted.
     ensures may { IfErr result (MayCome (S.counts shelf.old).faults (S.counts shelf.new).faults) }
     ensures shelf { ShelfStays S.Shelf shelf.old shelf.new }
@@ -68,7 +71,8 @@ fn send_screened<S: Shelf>(
     requires hop { IsTrue (is_hop (hop_of hop.now)) }
     requires local { hop.now.local ≡ place.now.settings.local }
     requires screened { IsScreenedBy early_rules (call_at (place_of place.now) bytes.now) (Ok screened.now) }
-    ensures sent { IsSentScreened (place_of place.now) (S.files shelf.old) (S.counts shelf.old).faults (S.counts shelf.new).faults (hop_of hop.now) bytes.now (λ out. out.items) result }
+    ensures sent { IsSentScreened (place_of place.now) (S.files shelf.old) (S.counts shelf.old).faults
+        (S.counts shelf.new).faults (hop_of hop.now) bytes.now (λ out. out.items) result }
     ensures may { IfErr result (MayCome (S.counts shelf.old).faults (S.counts shelf.new).faults) }
     ensures shelf { ShelfStays S.Shelf shelf.old shelf.new }
 {

@@ -1,4 +1,5 @@
-//! The commands `sign` and `divert`: a message with one more Identity header field (RFC 8224, section 4.1; RFC 8946, section 4.1).
+//! The commands `sign` and `divert`: a message with one more Identity header field (RFC 8224, section 4.1; RFC 8946,
+//! section 4.1).
 ghost use Rattle.std.specs.Prelude.{unwrap_or, ◌≡◌, ◌≤◌, [], true, is_some, length, string_bytes, IfErr, IfOk, IsTrue};
 ghost use Rattle.std.specs.Option.{option_map};
 ghost use Rattle.auth_service.specs.Answer.{names_provider};
@@ -10,7 +11,8 @@ ghost use Rattle.stir_outside.specs.Status.{status_number};
 ghost use Rattle.stir_words.specs.Seen.{holder_view};
 ghost use Rattle.stir_cmd.specs.Outside.{outside_of};
 ghost use Rattle.stir_cmd.specs.SignCode.{command_of};
-ghost use Rattle.stir_cmd.specs.Signing.{GivesMessage, GivesWhy, HasLine, HasList, RefusedFor, holder_by, sign_course, unsigned_line};
+ghost use Rattle.stir_cmd.specs.Signing.{GivesMessage, GivesWhy, HasLine, HasList, RefusedFor, holder_by, sign_course};
+ghost use Rattle.stir_cmd.specs.Signing.{unsigned_line};
 
 use crate::answer::{Answer, Answered};
 use crate::input::{InputCommand, answer_input};
@@ -74,7 +76,8 @@ impl<'a> SignerCommand<'a> {
         provider: &mut SteadyProvider<'_>,
     ) -> Result<Vec<u8>, SignFault>
         requires { IsTrue (is_order (command_of self.now).order) }
-        ensures promised { IsPromised (λ out. out.items) bytes.now (command_of self.now).order (holder_seen holder.entry) (held_signs provider.old.held) result }
+        ensures promised { IsPromised (λ out. out.items) bytes.now (command_of self.now).order
+            (holder_seen holder.entry) (held_signs provider.old.held) result }
         ensures failed { names_provider result ≡ true → Rose 0 0 }
     {
         match self {
@@ -140,8 +143,8 @@ impl InputCommand for MessageCommand<'_, '_> {
     }
 }
 
-/// Reads the named files and then the message that the input is, and writes it with its new field, or the line that says why there is none. Of
-/// the input no more is read than the longest message and one byte.
+/// Reads the named files and then the message that the input is, and writes it with its new field, or the line that
+/// says why there is none. Of the input no more is read than the longest message and one byte.
 pub(crate) fn sign_message<R: Threads + Sync, S: Shelf, I: Source, O: Sink>(
     rt: &R,
     alloc: Global,
@@ -177,8 +180,10 @@ fn sign_bytes(
 ) -> Result<Vec<u8>, SignFault>
     requires order { IsTrue (is_order (command_of command.now).order) }
     requires list { HasList materials.now.holder }
-    ensures signed { IfOk result (λ out. GivesMessage (command_of command.now).order (holder_by materials.now.holder) (held_signs materials.now.answers) bytes.now out.items) }
-    ensures unsigned { IfErr result (GivesWhy (command_of command.now).order (holder_by materials.now.holder) (held_signs materials.now.answers) bytes.now) }
+    ensures signed { IfOk result (λ out. GivesMessage (command_of command.now).order (holder_by materials.now.holder)
+        (held_signs materials.now.answers) bytes.now out.items) }
+    ensures unsigned { IfErr result (GivesWhy (command_of command.now).order (holder_by materials.now.holder)
+        (held_signs materials.now.answers) bytes.now) }
 {
     let mut provider = materials.answers.steady();
     match &materials.holder {
@@ -203,8 +208,10 @@ fn sign_for(
     provider: &mut SteadyProvider<'_>,
 ) -> Result<Vec<u8>, SignFault>
     requires { IsTrue (is_order (command_of command.now).order) }
-    ensures signed { IfOk result (λ out. GivesMessage (command_of command.now).order (holder_seen holder.entry) (held_signs provider.old.held) bytes.now out.items) }
-    ensures unsigned { IfErr result (GivesWhy (command_of command.now).order (holder_seen holder.entry) (held_signs provider.old.held) bytes.now) }
+    ensures signed { IfOk result (λ out. GivesMessage (command_of command.now).order (holder_seen holder.entry)
+        (held_signs provider.old.held) bytes.now out.items) }
+    ensures unsigned { IfErr result
+        (GivesWhy (command_of command.now).order (holder_seen holder.entry) (held_signs provider.old.held) bytes.now) }
 {
     command.call(alloc, bytes, holder, provider)
 }

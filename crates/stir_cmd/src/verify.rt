@@ -24,8 +24,8 @@ use stir_words::Verifying;
 use verify_rules::Settings;
 use verify_service::{Service, World};
 
-/// Reads the named files, and judges the calls of the log by what they say; if a file can't be had, it says so. A log that goes on from a state
-/// ends with the state that it hands on.
+/// Reads the named files, and judges the calls of the log by what they say; if a file can't be had, it says so. A log
+/// that goes on from a state ends with the state that it hands on.
 #[tactic(auto, using(crate::proofs::GoingSteps::ran_alone, crate::proofs::GoingSteps::ran_on, crate::proofs::FewReadsLaws::few_is_alone, crate::proofs::FewReadsLaws::few_is_on))]
 pub(crate) fn verify<R: Threads + Sync, S: Shelf, I: Source, O: Sink>(
     rt: &R,
@@ -107,7 +107,8 @@ fn judge_by<R: Threads + Sync, S: Shelf, I: Source, O: Sink>(
     ensures ran { RanBy settings workers materials
         (outside_of S.Shelf I.Source O.Sink shelf.old input.old sink.old)
         (outside_of S.Shelf I.Source O.Sink shelf.new input.new sink.new) result }
-    ensures reads { ReadsFirst settings materials.world.chains (start 0 0) (I.left input.old) (S.counts shelf.old).reads (S.counts shelf.new).reads }
+    ensures reads { ReadsFirst settings materials.world.chains (start 0 0) (I.left input.old) (S.counts shelf.old).reads
+        (S.counts shelf.new).reads }
     ensures shelf { ShelfStays S.Shelf shelf.old shelf.new }
 {
     let Materials { world, answers } = materials;
@@ -176,7 +177,8 @@ fn go_on_by<R: Threads + Sync, S: Shelf, I: Source, O: Sink>(
     ensures ran { WentOn settings workers materials
         (outside_of S.Shelf I.Source O.Sink shelf.old input.old sink.old)
         (outside_of S.Shelf I.Source O.Sink shelf.new input.new sink.new) result }
-    ensures reads { ReadsFirst settings materials.judging.world.chains (start_at materials.state) (I.left input.old) (S.counts shelf.old).reads (S.counts shelf.new).reads }
+    ensures reads { ReadsFirst settings materials.judging.world.chains (start_at materials.state) (I.left input.old)
+        (S.counts shelf.old).reads (S.counts shelf.new).reads }
     ensures shelf { ShelfStays S.Shelf shelf.old shelf.new }
 {
     let GoingMaterials { judging, state } = materials;
@@ -212,7 +214,8 @@ fn restored(
 
 /// Writes the line that says why a named file can't be had.
 pub(crate) fn end_at<O: Sink>(alloc: Global, stop: &FileError<'_>, sink: &mut O) -> u8
-    ensures { EndsAtStop (stop_of stop.now) (O.written sink.old) (O.written sink.new) (O.faults sink.old) (O.faults sink.new) result }
+    ensures { EndsAtStop (stop_of stop.now) (O.written sink.old) (O.written sink.new) (O.faults sink.old)
+        (O.faults sink.new) result }
 {
     match stop.line(alloc) {
         Ok(line) => end_with(sink, line.as_str(), stop.status()),

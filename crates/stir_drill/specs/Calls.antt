@@ -9,7 +9,8 @@ use Rattle.stir_drill.specs.Message.{message_of, moment_of}
 
 -- the call of this number, as it is drawn
 abbrev pub drawn_at : ℕ → ℕ → Drawn
-drawn_at seed number = record { number = number; change = change_of_call number (kind_of seed number); line = line_of seed number }
+drawn_at seed number =
+    record { number = number; change = change_of_call number (kind_of seed number); line = line_of seed number }
 
 -- the message of a call: that of the call before, if it repeats it, or its own
 abbrev pub message_after : Drawn → List ℕ → List ℕ

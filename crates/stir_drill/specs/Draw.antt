@@ -1,4 +1,5 @@
--- The numbers that are drawn (this project's own rule): a linear congruential generator modulo 2^64, of whose state the high bits are drawn.
+-- The numbers that are drawn (this project's own rule): a linear congruential generator modulo 2^64, of whose state the
+-- high bits are drawn.
 use Rattle.std.specs.Prelude.{ℕ, zero, suc, ◌+◌, ◌-◌, ◌*◌, ◌/◌, ◌%◌, ◌^◌}
 
 -- the state after the next draw
@@ -18,7 +19,8 @@ state seed (suc n) = next (state seed n)
 abbrev pub draw : ℕ → ℕ → ℕ
 draw seed n = drawn (state seed n)
 
--- Each call makes two draws. By the first, modulo 8, it is changed; the second, modulo 10,000, is the end of its number.
+-- Each call makes two draws. By the first, modulo 8, it is changed; the second, modulo 10,000, is the end of its
+-- number.
 abbrev pub kind_of : ℕ → ℕ → ℕ
 kind_of seed i = draw seed (2 * i - 1) % 8
 

@@ -1,5 +1,6 @@
--- The message of a call of the drill, the PASSporT that it carries, and what is signed. This is this project's own rule, in the terms of
--- RFC 3261, section 7, RFC 8224, section 4, RFC 8225, sections 4, 5 and 9, and RFC 8588, section 4.
+-- The message of a call of the drill, the PASSporT that it carries, and what is signed. This is this project's own
+-- rule, in the terms of RFC 3261, section 7, RFC 8224, section 4, RFC 8225, sections 4, 5 and 9, and RFC 8588, section
+-- 4.
 use Rattle.std.specs.Prelude.{ℕ, ◌+◌, ◌/◌, List, [], ◌∷◌, ◌++◌, Some, None, codes, decimal, replicate, if◌then◌else◌}
 use Rattle.std.specs.Int.{bytes_high_first}
 use Rattle.std.specs.List.{flat_map}
@@ -28,7 +29,8 @@ calling_text call = decimal (calling_in call.change call.line)
 abbrev pub origid_of : ℕ → List ℕ
 origid_of number = codes "00000000-0000-4000-8000-" ++ encode_lower (bytes_high_first 6 number)
 
--- the PASSporT of type `shaken` (RFC 8588, section 4) that was issued at a moment, from a calling number, with an identifier of the call
+-- the PASSporT of type `shaken` (RFC 8588, section 4) that was issued at a moment, from a calling number, with an
+-- identifier of the call
 abbrev pub passport_with : ℕ → List ℕ → List ℕ → PassportView
 passport_with iat orig origid = record {
   ppt = Some (codes "shaken");
@@ -42,7 +44,8 @@ passport_with iat orig origid = record {
 }
 
 abbrev pub passport_of : Drawn → PassportView
-passport_of call = passport_with (issued_in call.change (moment_of call.number)) (calling_text call) (origid_of call.number)
+passport_of call =
+    passport_with (issued_in call.change (moment_of call.number)) (calling_text call) (origid_of call.number)
 
 -- the text that is signed for it
 abbrev pub signing_of : Drawn → List ℕ
@@ -97,4 +100,5 @@ fields_with calling identity =
 
 -- the message of a call that repeats none
 abbrev pub message_of : Drawn → List ℕ
-message_of call = head_text (codes "INVITE sip:+12125551213@example.net SIP/2.0") (fields_with (calling_text call) (identity_fields call))
+message_of call = head_text (codes "INVITE sip:+12125551213@example.net SIP/2.0")
+    (fields_with (calling_text call) (identity_fields call))

@@ -54,7 +54,8 @@ triple key digest signature = record { key = key; digest = digest; signature = s
 
 -- a line of the answers file: `confirm KEY DIGEST SIGNATURE` in lower-case hex digits
 abbrev pub answer_line : Triple → List ℕ
-answer_line triple = join_with_byte 32 (codes "confirm" ∷ encode_lower triple.key ∷ encode_lower triple.digest ∷ encode_lower triple.signature ∷ []) ++ 10 ∷ []
+answer_line triple = join_with_byte 32 (codes "confirm" ∷ encode_lower triple.key ∷ encode_lower triple.digest
+    ∷ encode_lower triple.signature ∷ []) ++ 10 ∷ []
 
 -- the signature of a certificate under the key of its issuer
 abbrev pub issued_by : Recipe → Recipe → Triple

@@ -21,7 +21,8 @@ use std::alloc::{AllocError, Global};
 /// The most bytes that an entry of the log has.
 const MOST_OF_ENTRY: usize = 739;
 
-/// The calls that were made: the state of the generator, the log and the answers, and how many bytes the last message has.
+/// The calls that were made: the state of the generator, the log and the answers, and how many bytes the last message
+/// has.
 #[derive(Drop)]
 pub(crate) struct Calls {
     pub(crate) state: u64,
@@ -58,7 +59,8 @@ pub(crate) fn make_calls(
 /// Makes the call of this number after the others.
 fn put_call(alloc: Global, calls: &mut Calls, number: u64) -> Result<(), AllocError>
     requires { number ≤ 100000 }
-    ensures { (seed before : ℕ) → number ≡ suc before → Holds seed before calls.old → OnOk result (Holds seed (suc before) calls.new) }
+    ensures { (seed before : ℕ) → number ≡ suc before → Holds seed before calls.old
+        → OnOk result (Holds seed (suc before) calls.new) }
 {
     let kind = draw(&mut calls.state) % 8;
     let line = draw(&mut calls.state) % 10_000;

@@ -26,7 +26,8 @@ const NAME_FRONT: [u8; 13] = [
     0x30, 0x0C, 0x31, 0x0A, 0x30, 0x08, 0x06, 0x03, 0x55, 0x04, 0x03, 0x0C, 0x01,
 ];
 
-/// What comes before the coordinates of a key: the algorithm, the curve, and that the point isn't compressed (RFC 5480, section 2).
+/// What comes before the coordinates of a key: the algorithm, the curve, and that the point isn't compressed (RFC 5480,
+/// section 2).
 const KEY_FRONT: [u8; 27] = [
     0x30, 0x59, 0x30, 0x13, 0x06, 0x07, 0x2A, 0x86, 0x48, 0xCE, 0x3D, 0x02, 0x01, 0x06, 0x08, 0x2A,
     0x86, 0x48, 0xCE, 0x3D, 0x03, 0x01, 0x07, 0x03, 0x42, 0x00, 0x04,
@@ -110,8 +111,10 @@ pub(crate) fn make_certificate(
     extensions: &[u8],
 ) -> Result<Certificate, Memory>
     requires { length extensions.now ≤ 128 }
-    ensures bytes { IfOk result (λ made. made.bytes.items ≡ specs.certificate_text (specs.recipe named.subject named.issuer named.byte extensions.now)) }
-    ensures digest { IfOk result (λ made. made.digest ≡ specs.digest (specs.recipe named.subject named.issuer named.byte extensions.now)) }
+    ensures bytes { IfOk result (λ made.
+        made.bytes.items ≡ specs.certificate_text (specs.recipe named.subject named.issuer named.byte extensions.now)) }
+    ensures digest { IfOk result
+        (λ made. made.digest ≡ specs.digest (specs.recipe named.subject named.issuer named.byte extensions.now)) }
 {
     let mut content = signed_text(alloc, named, extensions)?;
     let digest = Sha256::digest(content.as_slice());
@@ -125,7 +128,8 @@ pub(crate) fn make_certificate(
 #[tactic(auto, using(crate::proofs::CertificateLaws::version_is, crate::proofs::CertificateLaws::version_length, crate::proofs::CertificateLaws::algorithm_is, crate::proofs::CertificateLaws::algorithm_length))]
 fn signed_text(alloc: Global, named: Named, extensions: &[u8]) -> Result<Vec<u8>, Memory>
     requires { length extensions.now ≤ 128 }
-    ensures text { IfOk result (λ text. text.items ≡ specs.signed_text (specs.recipe named.subject named.issuer named.byte extensions.now)) }
+    ensures text { IfOk result
+        (λ text. text.items ≡ specs.signed_text (specs.recipe named.subject named.issuer named.byte extensions.now)) }
     ensures short { IfOk result (λ text. length text.items ≤ 400) }
 {
     let mut content = Vec::from_slice(alloc, &VERSION)?;

@@ -12,9 +12,11 @@ pub fn call_law()
     ensures { (seed i : ℕ) → 1 ≤ i → SaysCall seed i }
 {}
 
-/// The log of the drill is whole: its calls are read from it, and nothing comes after them. An entry has at most 739 bytes.
+/// The log of the drill is whole: its calls are read from it, and nothing comes after them. An entry has at most 739
+/// bytes.
 pub fn log_law()
-    ensures whole { (seed count : ℕ) → count ≤ 100000 → LogText (start 0 0) (log_of seed count) (calls_of seed count) [] }
+    ensures whole { (seed count : ℕ) → count ≤ 100000
+        → LogText (start 0 0) (log_of seed count) (calls_of seed count) [] }
     ensures short { (seed count : ℕ) → count ≤ 100000 → AreUpTo 739 (calls_of seed count) }
 {}
 

@@ -27,7 +27,8 @@ const IDENTITY: &str = "Identity: ";
 
 const PARAMETERS: &str = ";info=<https://cert.example.org/drill.cer>;alg=ES256;ppt=\"shaken\"\r\n";
 
-/// Appends the entry of a call with a message of its own, whose Identity line is given, and tells how many bytes the message has.
+/// Appends the entry of a call with a message of its own, whose Identity line is given, and tells how many bytes the
+/// message has.
 #[tactic(auto, using(crate::proofs::MessageLaws::entry_spelled, crate::proofs::MessageLaws::message_size))]
 pub(crate) fn put_message(
     log: &mut Vec<u8>,
@@ -37,7 +38,8 @@ pub(crate) fn put_message(
     requires line { call.line < 10000 }
     requires identity { identity.now ≡ identity_line call }
     requires short { length identity.now ≤ 1000 }
-    ensures entry { OnOk result (log.new.items ≡ log.old.items ++ headed (moment_of call.number) (length (message_of call)) (message_of call)) }
+    ensures entry { OnOk result (log.new.items ≡ log.old.items
+        ++ headed (moment_of call.number) (length (message_of call)) (message_of call)) }
     ensures size { IfOk result (λ size. size ≡ length (message_of call)) }
 {
     let mut buffer = Buffer::new();
@@ -64,7 +66,9 @@ fn put_entry(
     calling: &[u8],
     identity: &[u8],
 ) -> Result<(), AllocError>
-    ensures { OnOk result (log.new.items ≡ (((((log.old.items ++ headed moment size []) ++ before_number) ++ calling.now) ++ between) ++ identity.now) ++ at_end) }
+    ensures { OnOk result
+        (log.new.items ≡ (((((log.old.items ++ headed moment size []) ++ before_number) ++ calling.now) ++ between)
+        ++ identity.now) ++ at_end) }
 {
     put_header(log, moment, size)?;
     log.extend_from_slice(FRONT.as_bytes())?;
@@ -75,7 +79,8 @@ fn put_entry(
     Ok(())
 }
 
-/// The line of the Identity header field of a call, which has this signature over this text; no line if the call has none.
+/// The line of the Identity header field of a call, which has this signature over this text; no line if the call has
+/// none.
 #[tactic(auto, using(crate::proofs::MessageLaws::line_absent, crate::proofs::MessageLaws::line_spelled, crate::proofs::MessageLaws::line_short))]
 pub(crate) fn identity_line(
     alloc: Global,
@@ -98,7 +103,8 @@ pub(crate) fn identity_line(
 
 /// The line of a token of these two texts.
 fn line_of(alloc: Global, signing: &[u8], encoded: &[u8]) -> Result<Vec<u8>, AllocError>
-    ensures { IfOk result (λ line. line.items ≡ (((before_token ++ signing.now) ++ 46 ∷ []) ++ encoded.now) ++ parameters) }
+    ensures { IfOk result
+        (λ line. line.items ≡ (((before_token ++ signing.now) ++ 46 ∷ []) ++ encoded.now) ++ parameters) }
 {
     let mut line = Vec::from_slice(alloc, IDENTITY.as_bytes())?;
     line.extend_from_slice(signing)?;

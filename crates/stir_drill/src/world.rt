@@ -107,7 +107,8 @@ pub(crate) fn put_answer(
     digest: &[u8],
     signature: &[u8],
 ) -> Result<(), Memory>
-    ensures { OnOk result (answers.new.items ≡ answers.old.items ++ specs.answer_line (specs.triple key.now digest.now signature.now)) }
+    ensures { OnOk result (answers.new.items ≡ answers.old.items
+        ++ specs.answer_line (specs.triple key.now digest.now signature.now)) }
 {
     answers.extend_from_slice(b"confirm ")?;
     answers.extend_from_slice(hex::encode(alloc, key)?.as_bytes())?;

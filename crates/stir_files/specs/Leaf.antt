@@ -1,5 +1,5 @@
--- The file of the certificate of the holder of a key: one certificate with an authority list (RFC 8226, section 9; that it has to have the list
--- is this project's own rule).
+-- The file of the certificate of the holder of a key: one certificate with an authority list (RFC 8226, section 9; that
+-- it has to have the list is this project's own rule).
 use Rattle.std.specs.Prelude.{◌≡◌, ℕ, Bool, true, false, List, is_some, Option, Some, None, Result, Ok, Err}
 use Rattle.x509_profile.specs.Cert.{Cert}
 use Rattle.x509_profile.specs.Read.{read_certificate}

@@ -9,7 +9,8 @@ use Rattle.stir_files.specs.Named.{AnchorsOf, NamedFile, ReadOf, anchor_file, an
 use Rattle.stir_files.specs.declared.materials.Materials.{Materials}
 
 abbrev pub files_of : JudgingView → List NamedFile
-files_of judging = chain_map judging.chains ∷ anchor_file judging.anchors ∷ code_table judging.table ∷ answers_file judging.answers ∷ []
+files_of judging = chain_map judging.chains ∷ anchor_file judging.anchors ∷ code_table judging.table
+    ∷ answers_file judging.answers ∷ []
 
 -- what was read is what the files say
 pub record MaterialsOf (files : Option Files) (judging : JudgingView) (materials : Materials) : Type 0 where

@@ -1,5 +1,6 @@
 -- Named files: each has a limit and a grammar (this project's own rule).
-use Rattle.std.specs.Prelude.{◌≡◌, ℕ, ◌≤◌, ◌⊎◌, nat_lt, List, [], ◌∷◌, length, Option, Some, None, Result, Ok, Err, if◌then◌else◌}
+use Rattle.std.specs.Prelude.{◌≡◌, ℕ, ◌≤◌, ◌⊎◌, nat_lt, List, [], ◌∷◌, length, Option, Some, None, Result, Ok, Err}
+use Rattle.std.specs.Prelude.{if◌then◌else◌}
 use Rattle.std.specs.Option.{option_map, option_or}
 use Rattle.stir_outside.specs.Count.{Rose}
 use Rattle.stir_outside.specs.AnswersText.{answer_rows}
@@ -51,7 +52,8 @@ pub record Stop : Type 0 where
   pub fault : FileFault
 
 abbrev pub stop_in : Files → NamedFile → Option Stop
-stop_in files named = option_map (λ fault. record { name = named.name; fault = fault }) (fault_in named (file named.name files))
+stop_in files named =
+    option_map (λ fault. record { name = named.name; fault = fault }) (fault_in named (file named.name files))
 
 -- the first of the named files, in their order, that has a fault
 abbrev pub first_fault : Files → List NamedFile → Option Stop
@@ -115,7 +117,8 @@ CausedBy before now Memory = Unit {0}
 -- the reading ended at one of the files, and those before it have no fault
 abbrev pub StopsAt : Option Files → List NamedFile → Stop → Type 0
 StopsAt files [] stop = ⊥
-StopsAt files (named ∷ others) stop = ((stop.name ≡ named.name) × FaultSays files named stop.fault) ⊎ (Passes files named × StopsAt files others stop)
+StopsAt files (named ∷ others) stop =
+    ((stop.name ≡ named.name) × FaultSays files named stop.fault) ⊎ (Passes files named × StopsAt files others stop)
 
 -- a read that failed and running out of memory are told by no file
 abbrev pub IsOutside : FileFault → Type 0

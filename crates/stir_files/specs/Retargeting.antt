@@ -12,6 +12,7 @@ abbrev pub retargeting_files : RetargetingView → List NamedFile
 retargeting_files words = files_of words.judging ++ leaf_file words.leaf ∷ []
 
 -- what was read is what the files say
-pub record RetargetingOf (files : Option Files) (words : RetargetingView) (materials : RetargetingMaterials) : Type 0 where
+pub record RetargetingOf (files : Option Files) (words : RetargetingView)
+    (materials : RetargetingMaterials) : Type 0 where
   pub judging : MaterialsOf files words.judging materials.judging
   pub leaf : ReadOf files (leaf_file words.leaf) (λ content. LeafOf content materials.leaf)

@@ -1,4 +1,5 @@
--- The named files of each command in the order of reading, with their limits, and what is said of a fault of one: row by row (this project's own rule).
+-- The named files of each command in the order of reading, with their limits, and what is said of a fault of one: row
+-- by row (this project's own rule).
 use Rattle.std.specs.Prelude.{◌≡◌, ℕ, List, [], ◌∷◌, ◌++◌, codes, map, Option, Some, None}
 use Rattle.std.specs.Fmt.{decimal}
 use Rattle.stir_words.specs.Order.{AskingView, HolderNames, JudgingView, RetargetingView}
@@ -23,11 +24,12 @@ rows_in named = map (λ (file : NamedFile). row file.name file.limit) named
 
 -- `verify` and `explain`, and `verify` from a state on
 abbrev pub judging_rows : JudgingView → List FileRow
-judging_rows judging = row judging.chains 16777216 ∷ row judging.anchors 2097152 ∷ row judging.table 16777216 ∷ row judging.answers 67108864 ∷ []
+judging_rows judging = row judging.chains 16777216 ∷ row judging.anchors 2097152 ∷ row judging.table 16777216
+    ∷ row judging.answers 67108864 ∷ []
 
 abbrev pub going_rows : JudgingView → List ℕ → List FileRow
-going_rows judging state =
-    row judging.chains 16777216 ∷ row judging.anchors 2097152 ∷ row judging.table 16777216 ∷ row judging.answers 67108864 ∷ row state 536870912 ∷ []
+going_rows judging state = row judging.chains 16777216 ∷ row judging.anchors 2097152 ∷ row judging.table 16777216
+    ∷ row judging.answers 67108864 ∷ row state 536870912 ∷ []
 
 -- `ask`
 abbrev pub asking_rows : AskingView → List FileRow
@@ -40,9 +42,8 @@ signing_rows answers (Some names) = row answers 67108864 ∷ row names.leaf 8192
 
 -- `retarget`
 abbrev pub retargeting_rows : RetargetingView → List FileRow
-retargeting_rows words =
-    row words.judging.chains 16777216 ∷ row words.judging.anchors 2097152 ∷ row words.judging.table 16777216 ∷ row words.judging.answers 67108864
-    ∷ row words.leaf 8192 ∷ []
+retargeting_rows words = row words.judging.chains 16777216 ∷ row words.judging.anchors 2097152
+    ∷ row words.judging.table 16777216 ∷ row words.judging.answers 67108864 ∷ row words.leaf 8192 ∷ []
 
 -- a file of one kind, wherever it is named
 abbrev pub row_of : InputFile → FileRow

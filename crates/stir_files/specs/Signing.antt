@@ -30,6 +30,7 @@ IsHolderOf files None (Some holder) = ⊥
 IsHolderOf files (Some names) None = ⊥
 IsHolderOf files (Some names) (Some holder) = HolderOf files names holder
 
-pub record SigningOf (files : Option Files) (answers : List ℕ) (holder : Option HolderNames) (materials : SigningMaterials) : Type 0 where
+pub record SigningOf (files : Option Files) (answers : List ℕ) (holder : Option HolderNames)
+    (materials : SigningMaterials) : Type 0 where
   pub answered : ReadOf files (answers_file answers) (λ content. AnswersOf content materials.answers)
   pub held : IsHolderOf files holder materials.holder

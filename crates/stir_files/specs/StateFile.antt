@@ -1,4 +1,5 @@
--- The file with the state of an earlier run: the window of the state has to be that by which this run judges (this project's own rule).
+-- The file with the state of an earlier run: the window of the state has to be that by which this run judges (this
+-- project's own rule).
 use Rattle.std.specs.Prelude.{◌≡◌, ℕ, ◌+◌, ◌==◌, List, [], ◌∷◌, Option, Some, None, Result, Ok, Err, if◌then◌else◌}
 use Rattle.std.specs.Str.{bytes_eq}
 use Rattle.state_text.specs.Lines.{ended_lines}

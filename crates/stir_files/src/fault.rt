@@ -15,8 +15,8 @@ pub enum FileFault {
     Failed,
     /// The file is outside its grammar.
     Refused {
-        /// The first bad line, counted from 1; of trust anchors the offset of the first that is none; of a certificate that of its first
-        /// broken part.
+        /// The first bad line, counted from 1; of trust anchors the offset of the first that is none; of a certificate
+        /// that of its first broken part.
         place: u64,
     },
     /// The file is a certificate without an authority list.

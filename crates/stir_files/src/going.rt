@@ -26,10 +26,11 @@ pub struct GoingMaterials {
     pub state: State,
 }
 
-/// Reads the four files as [`read_materials`](crate::read_materials) does, and then the state file of this name, which has at most 536,870,912 bytes.
+/// Reads the four files as [`read_materials`](crate::read_materials) does, and then the state file of this name, which
+/// has at most 536,870,912 bytes.
 ///
-/// A state with a window other than `past` of the words is refused at the line of the window, if the whole file is in its grammar. The first event in
-/// the order of reading decides.
+/// A state with a window other than `past` of the words is refused at the line of the window, if the whole file is in
+/// its grammar. The first event in the order of reading decides.
 #[tactic(auto, using(crate::proofs::FirstFault::truly_same, crate::proofs::FirstFault::truly_stopped))]
 pub fn read_going<'a, S: Shelf, B: AnswersReader>(
     alloc: Global,
@@ -43,9 +44,11 @@ pub fn read_going<'a, S: Shelf, B: AnswersReader>(
     ensures go_on { CountsGoOn (S.counts shelf.old) (S.counts shelf.new) }
     // What was read is what the files say; else those before one have no fault, and of that one this is said.
     ensures read { IfOk result (GoingOf (S.files shelf.old) (judging_view judging.now) state.now) }
-    ensures stopped { IfErr result (λ stop. StopsAt (S.files shelf.old) (going_files (judging_view judging.now) state.now) (stop_of stop)) }
+    ensures stopped { IfErr result
+        (λ stop. StopsAt (S.files shelf.old) (going_files (judging_view judging.now) state.now) (stop_of stop)) }
     ensures cause { IfErr result (λ stop. CausedBy (S.counts shelf.old) (S.counts shelf.new) stop.fault) }
-    // If the shelf tells its files, the answer is their first fault, or none; a read that fails and running out of memory are the outside's.
+    // If the shelf tells its files, the answer is their first fault, or none; a read that fails and running out of
+    // memory are the outside's.
     ensures truly { Truly (S.files shelf.old) (going_files (judging_view judging.now) state.now) result }
     // Each file is read once at most.
     ensures reads { (S.counts shelf.new).reads ≤ (S.counts shelf.old).reads + 5 }

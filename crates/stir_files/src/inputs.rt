@@ -56,8 +56,8 @@ impl Inputs {
     }
 }
 
-/// Reads the files in the order of the list. No two of them are to hold the same. Each is read within its limit and tried by its grammar
-/// before the next is read.
+/// Reads the files in the order of the list. No two of them are to hold the same. Each is read within its limit and
+/// tried by its grammar before the next is read.
 ///
 /// The first event in this order decides: a file is missing, too long, can't be read, or is outside its grammar.
 pub fn read_files<'a, S: Shelf, B: AnswersReader>(
@@ -75,7 +75,8 @@ pub fn read_files<'a, S: Shelf, B: AnswersReader>(
     ensures only { IfOk result (IsOfThese named.now) }
     ensures stopped { IfErr result (λ stop. StopsAt (S.files shelf.old) (files_named named.now) (stop_of stop)) }
     ensures cause { IfErr result (λ stop. CausedBy (S.counts shelf.old) (S.counts shelf.new) stop.fault) }
-    // If the shelf tells its files, the answer is their first fault, or none; a read that fails and running out of memory are the outside's.
+    // If the shelf tells its files, the answer is their first fault, or none; a read that fails and running out of
+    // memory are the outside's.
     ensures truly { Truly (S.files shelf.old) (files_named named.now) result }
     // Each file is read once at most.
     ensures reads { (S.counts shelf.new).reads ≤ (S.counts shelf.old).reads + length named.now }

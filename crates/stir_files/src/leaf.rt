@@ -10,7 +10,8 @@ use x509_profile::{CertFault, Certificate};
 /// The most bytes of a certificate.
 pub(crate) const MOST_BYTES: usize = 8192;
 
-/// The certificate that the content is, if it has an authority list; the place of a fault is that of its first broken part.
+/// The certificate that the content is, if it has an authority list; the place of a fault is that of its first broken
+/// part.
 #[tactic(auto, using(crate::proofs::LeafSteps::broken_at, crate::proofs::LeafSteps::unlisted, crate::proofs::LeafSteps::is_leaf))]
 pub(crate) fn read_leaf(alloc: Global, content: &[u8]) -> Result<Certificate, FileFault>
     requires { length content.now ≤ MOST_BYTES }

@@ -1,13 +1,16 @@
-//! The named files that the program reads before its input: each from the shelf, within its limit, and tried by its grammar before the next is read.
+//! The named files that the program reads before its input: each from the shelf, within its limit, and tried by its
+//! grammar before the next is read.
 //!
 //! - [`read_files`] reads a list of [`InputFile`]s in its order, and gives [`Inputs`].
-//! - [`read_materials`] reads the four files of `verify` so: the chain map, the trust anchors, the code table and the answers.
+//! - [`read_materials`] reads the four files of `verify` so: the chain map, the trust anchors, the code table and the
+//!   answers.
 //! - [`read_going`] reads them and then a state file, for a log that goes on from the state of an earlier run.
 //! - [`read_world`] reads the first three, for `ask`.
 //! - [`read_retargeting`] reads those of `retarget`: these four and the certificate of a holder.
-//! - [`read_signing`] reads those of `sign` and `divert`: the answers, and the certificate of a holder and the code table, if these are named.
-//! - If one can't be had they answer a [`FileError`], which has the name, the [`FileFault`], and the line and the status with which the program
-//!   ends.
+//! - [`read_signing`] reads those of `sign` and `divert`: the answers, and the certificate of a holder and the code
+//!   table, if these are named.
+//! - If one can't be had they answer a [`FileError`], which has the name, the [`FileFault`], and the line and the
+//!   status with which the program ends.
 //!
 //! ```rust
 //! match read_materials(alloc, &mut shelf, &judging) {
@@ -20,10 +23,12 @@
 //! `state_text` and `stir_outside`. The files of
 //! chains are read later, as calls name them (`verify_service`).
 //!
-//! Proved: the files are given as their readers say, or the fault is that of the first file that has one, with its cause in the shelf's own counts;
-//! nothing else was read. `docs/dev/PROVED.md`, "The program", has the clauses, and `docs/FORMATS.md` the lines.
+//! Proved: the files are given as their readers say, or the fault is that of the first file that has one, with its
+//! cause in the shelf's own counts; nothing else was read. `docs/dev/PROVED.md`, "The program", has the clauses, and
+//! `docs/FORMATS.md` the lines.
 //!
-//! Cases: section `files` of `crates/vectors/stdin`, `tests/cli/files.rows`, and files of the longest in `crates/stir_tests`.
+//! Cases: section `files` of `crates/vectors/stdin`, `tests/cli/files.rows`, and files of the longest in
+//! `crates/stir_tests`.
 #![tactic(auto)]
 
 mod anchors;

@@ -23,10 +23,11 @@ pub struct Materials {
     pub answers: Answers,
 }
 
-/// Reads the four files in the order chains, anchors, table, answers, and tries each by its grammar before the next is read.
+/// Reads the four files in the order chains, anchors, table, answers, and tries each by its grammar before the next is
+/// read.
 ///
-/// The chain map and the table have at most 16,777,216 bytes, the anchors 2,097,152 and the answers 67,108,864. The first event in this
-/// order decides: a file is missing, too long, can't be read, or is outside its grammar.
+/// The chain map and the table have at most 16,777,216 bytes, the anchors 2,097,152 and the answers 67,108,864. The
+/// first event in this order decides: a file is missing, too long, can't be read, or is outside its grammar.
 #[tactic(auto, using(crate::proofs::FirstFault::truly_same, crate::proofs::FirstFault::truly_stopped))]
 pub fn read_materials<'a, S: Shelf, B: AnswersReader>(
     alloc: Global,
@@ -39,9 +40,11 @@ pub fn read_materials<'a, S: Shelf, B: AnswersReader>(
     ensures go_on { CountsGoOn (S.counts shelf.old) (S.counts shelf.new) }
     // What was read is what the files say; else those before one have no fault, and of that one this is said.
     ensures read { IfOk result (MaterialsOf (S.files shelf.old) (judging_view judging.now)) }
-    ensures stopped { IfErr result (λ stop. StopsAt (S.files shelf.old) (files_of (judging_view judging.now)) (stop_of stop)) }
+    ensures stopped { IfErr result
+        (λ stop. StopsAt (S.files shelf.old) (files_of (judging_view judging.now)) (stop_of stop)) }
     ensures cause { IfErr result (λ stop. CausedBy (S.counts shelf.old) (S.counts shelf.new) stop.fault) }
-    // If the shelf tells its files, the answer is their first fault, or none; a read that fails and running out of memory are the outside's.
+    // If the shelf tells its files, the answer is their first fault, or none; a read that fails and running out of
+    // memory are the outside's.
     ensures truly { Truly (S.files shelf.old) (files_of (judging_view judging.now)) result }
     // Each file is read once at most.
     ensures reads { (S.counts shelf.new).reads ≤ (S.counts shelf.old).reads + 4 }

@@ -25,11 +25,11 @@ pub struct RetargetingMaterials {
     pub leaf: Certificate,
 }
 
-/// Reads the five files in the order chains, anchors, table, answers, leaf, and tries each by its grammar, the certificate's list too, before the
-/// next is read.
+/// Reads the five files in the order chains, anchors, table, answers, leaf, and tries each by its grammar, the
+/// certificate's list too, before the next is read.
 ///
-/// Their limits are those of `verify` and `sign`. The first event in this order decides: a file is missing, too long, can't be read, or is outside
-/// its grammar, or the certificate has no list.
+/// Their limits are those of `verify` and `sign`. The first event in this order decides: a file is missing, too long,
+/// can't be read, or is outside its grammar, or the certificate has no list.
 #[tactic(auto, using(crate::proofs::FirstFault::truly_same, crate::proofs::FirstFault::truly_stopped))]
 pub fn read_retargeting<'a, S: Shelf>(
     alloc: Global,
@@ -40,9 +40,11 @@ pub fn read_retargeting<'a, S: Shelf>(
     ensures go_on { CountsGoOn (S.counts shelf.old) (S.counts shelf.new) }
     // What was read is what the files say; else those before one have no fault, and of that one this is said.
     ensures read { IfOk result (RetargetingOf (S.files shelf.old) (retargeting_view words.now)) }
-    ensures stopped { IfErr result (λ stop. StopsAt (S.files shelf.old) (retargeting_files (retargeting_view words.now)) (stop_of stop)) }
+    ensures stopped { IfErr result
+        (λ stop. StopsAt (S.files shelf.old) (retargeting_files (retargeting_view words.now)) (stop_of stop)) }
     ensures cause { IfErr result (λ stop. CausedBy (S.counts shelf.old) (S.counts shelf.new) stop.fault) }
-    // If the shelf tells its files, the answer is their first fault, or none; a read that fails and running out of memory are the outside's.
+    // If the shelf tells its files, the answer is their first fault, or none; a read that fails and running out of
+    // memory are the outside's.
     ensures truly { Truly (S.files shelf.old) (retargeting_files (retargeting_view words.now)) result }
     // Each file is read once at most.
     ensures reads { (S.counts shelf.new).reads ≤ (S.counts shelf.old).reads + 5 }

@@ -34,11 +34,12 @@ pub struct SigningMaterials {
     pub holder: Option<HolderMaterials>,
 }
 
-/// Reads the answers, and then, if a holder is named, its certificate and the code table; each is tried by its grammar, the certificate's
-/// list too, before the next is read.
+/// Reads the answers, and then, if a holder is named, its certificate and the code table; each is tried by its grammar,
+/// the certificate's list too, before the next is read.
 ///
-/// The answers have at most 67,108,864 bytes, the certificate 8,192 and the table 16,777,216. The first event in this order decides: a file is
-/// missing, too long, can't be read, or is outside its grammar, or the certificate has no list.
+/// The answers have at most 67,108,864 bytes, the certificate 8,192 and the table 16,777,216. The first event in this
+/// order decides: a file is missing, too long, can't be read, or is outside its grammar, or the certificate has no
+/// list.
 #[tactic(auto, using(crate::proofs::FirstFault::truly_same, crate::proofs::FirstFault::truly_stopped))]
 pub fn read_signing<'a, S: Shelf>(
     alloc: Global,
@@ -50,12 +51,16 @@ pub fn read_signing<'a, S: Shelf>(
     ensures go_on { CountsGoOn (S.counts shelf.old) (S.counts shelf.new) }
     // What was read is what the files say; else those before one have no fault, and of that one this is said.
     ensures read { IfOk result (SigningOf (S.files shelf.old) answers.entry.now (option_map holder_view holder.entry)) }
-    ensures stopped { IfErr result (λ stop. StopsAt (S.files shelf.old) (signing_files answers.entry.now (option_map holder_view holder.entry)) (stop_of stop)) }
+    ensures stopped { IfErr result (λ stop. StopsAt (S.files shelf.old)
+        (signing_files answers.entry.now (option_map holder_view holder.entry)) (stop_of stop)) }
     ensures cause { IfErr result (λ stop. CausedBy (S.counts shelf.old) (S.counts shelf.new) stop.fault) }
-    // If the shelf tells its files, the answer is their first fault, or none; a read that fails and running out of memory are the outside's.
-    ensures truly { Truly (S.files shelf.old) (signing_files answers.entry.now (option_map holder_view holder.entry)) result }
+    // If the shelf tells its files, the answer is their first fault, or none; a read that fails and running out of
+    // memory are the outside's.
+    ensures truly { Truly (S.files shelf.old)
+        (signing_files answers.entry.now (option_map holder_view holder.entry)) result }
     // Each file is read once at most.
-    ensures reads { (S.counts shelf.new).reads ≤ (S.counts shelf.old).reads + length (signing_files answers.entry.now (option_map holder_view holder.entry)) }
+    ensures reads { (S.counts shelf.new).reads ≤ (S.counts shelf.old).reads
+        + length (signing_files answers.entry.now (option_map holder_view holder.entry)) }
 {
     let Some(names) = holder else {
         let Inputs { answers, .. } = read_files(

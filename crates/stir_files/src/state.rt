@@ -10,8 +10,8 @@ use std::alloc::Global;
 /// The most bytes of a state file.
 pub(crate) const MOST_BYTES: usize = 536_870_912;
 
-/// The state that the content holds, if its window is this one. The place of a fault is the first bad line, or the line of another window: the whole
-/// content is read first.
+/// The state that the content holds, if its window is this one. The place of a fault is the first bad line, or the line
+/// of another window: the whole content is read first.
 #[tactic(auto, using(crate::proofs::StateSteps::bad_line, crate::proofs::StateSteps::other_window, crate::proofs::StateSteps::is_state))]
 pub(crate) fn read_state(alloc: Global, content: &[u8], window: u64) -> Result<State, FileFault>
     requires size { length content.now ≤ MOST_BYTES }

@@ -16,8 +16,8 @@ pub struct FileError<'a> {
 }
 
 impl FileError<'_> {
-    /// The line that says it, with its LF: `missing NAME`, `long NAME`, `read fault NAME`, `refused NAME PLACE`, `no list NAME` or
-    /// `want of memory`.
+    /// The line that says it, with its LF: `missing NAME`, `long NAME`, `read fault NAME`, `refused NAME PLACE`,
+    /// `no list NAME` or `want of memory`.
     pub fn line(&self, alloc: Global) -> Result<String, AllocError>
         ensures { IfOk result (λ line. string_bytes line ≡ event_line self.now.name.now self.now.fault) }
     {

@@ -1,4 +1,5 @@
--- A line of the answers file as it is written (this project's own rule): what `row_of` reads of it, in the words of the format.
+-- A line of the answers file as it is written (this project's own rule): what `row_of` reads of it, in the words of the
+-- format.
 use Rattle.std.specs.Prelude.{◌≡◌, true, ℕ, List, [], ◌∷◌, length, slice_index, codes}
 use Rattle.std.specs.List.{join_with_byte}
 use Rattle.std.specs.Str.{str_to_ascii_lowercase}
@@ -15,7 +16,8 @@ pub record IsHex (count : ℕ) (bytes word : List ℕ) : Type 0 where
   pub are_bytes : IsBytes bytes
   pub digits : str_to_ascii_lowercase word ≡ encode_lower bytes
 
--- `confirm KEY DIGEST SIGNATURE`, with one space between each two words; the key is an uncompressed point (SEC 1, section 2.3.3)
+-- `confirm KEY DIGEST SIGNATURE`, with one space between each two words; the key is an uncompressed point (SEC 1,
+-- section 2.3.3)
 pub record IsConfirmLine (line : List ℕ) (triple : Triple) : Type 0 where
   pub key : List ℕ
   pub digest : List ℕ

@@ -1,7 +1,8 @@
 -- The answers file (this project's own rule): signatures that were confirmed and made beforehand. A line is
--- `confirm KEY DIGEST SIGNATURE` or `sign NAME DIGEST SIGNATURE`. KEY, DIGEST and SIGNATURE are 65, 32 and 64 bytes in hex
--- digits of either case; KEY is an uncompressed point, so its first byte is 04 (SEC 1, section 2.3.3).
-use Rattle.std.specs.Prelude.{◌≡◌, ◌+◌, ◌*◌, ℕ, Bool, false, ◌&&◌, ◌==◌, List, [], ◌∷◌, slice_index, is_some, codes, map, Option, Some, None, option_and_then, Result, if◌then◌else◌}
+-- `confirm KEY DIGEST SIGNATURE` or `sign NAME DIGEST SIGNATURE`. KEY, DIGEST and SIGNATURE are 65, 32 and 64 bytes in
+-- hex digits of either case; KEY is an uncompressed point, so its first byte is 04 (SEC 1, section 2.3.3).
+use Rattle.std.specs.Prelude.{◌≡◌, ◌+◌, ◌*◌, ℕ, Bool, false, ◌&&◌, ◌==◌, List, [], ◌∷◌, slice_index, is_some, codes}
+use Rattle.std.specs.Prelude.{map, Option, Some, None, option_and_then, Result, if◌then◌else◌}
 use Rattle.std.specs.List.{list_any}
 use Rattle.std.specs.Option.{option_map, option_or}
 use Rattle.std.specs.Result.{result_ok}
@@ -30,12 +31,14 @@ abbrev pub key_of : List ℕ → Option (List ℕ)
 key_of word = option_and_then (λ key. if slice_index key 0 == 4 then Some key else None) (bytes_of 65 word)
 
 abbrev pub confirm_of : List ℕ → List ℕ → List ℕ → Option Row
-confirm_of key digest signature =
-    option_and_then (λ k. option_and_then (λ d. option_map (λ s. Confirm (record { key = k; digest = d; signature = s })) (bytes_of 64 signature)) (bytes_of 32 digest)) (key_of key)
+confirm_of key digest signature = option_and_then (λ k. option_and_then
+    (λ d. option_map (λ s. Confirm (record { key = k; digest = d; signature = s })) (bytes_of 64 signature))
+    (bytes_of 32 digest)) (key_of key)
 
 abbrev pub sign_of : List ℕ → List ℕ → List ℕ → Option Row
-sign_of name digest signature =
-    option_and_then (λ n. option_and_then (λ d. option_map (λ s. Sign (record { name = n; digest = d }) s) (bytes_of 64 signature)) (bytes_of 32 digest)) (name_of name)
+sign_of name digest signature = option_and_then (λ n.
+    option_and_then (λ d. option_map (λ s. Sign (record { name = n; digest = d }) s) (bytes_of 64 signature))
+    (bytes_of 32 digest)) (name_of name)
 
 -- the first word says of which kind the line is
 abbrev pub of_kind : List ℕ → List ℕ → List ℕ → List ℕ → Option Row
@@ -60,7 +63,8 @@ row_of line = option_and_then row_of_words (line_words line)
 
 -- the row confirms this signature over this digest under this key
 abbrev pub confirms : List ℕ → List ℕ → List ℕ → Row → Bool
-confirms key digest signature (Confirm triple) = bytes_eq triple.key key && (bytes_eq triple.digest digest && bytes_eq triple.signature signature)
+confirms key digest signature (Confirm triple) =
+    bytes_eq triple.key key && (bytes_eq triple.digest digest && bytes_eq triple.signature signature)
 confirms key digest signature (Sign order made) = false
 
 -- the triple is one of the rows
@@ -70,7 +74,8 @@ says rows key digest signature = list_any (confirms key digest signature) rows
 -- the signature that the row has for this name and digest
 abbrev pub signature_in : List ℕ → List ℕ → Row → Option (List ℕ)
 signature_in name digest (Confirm triple) = None
-signature_in name digest (Sign order made) = if bytes_eq order.name name && bytes_eq order.digest digest then Some made else None
+signature_in name digest (Sign order made) =
+    if bytes_eq order.name name && bytes_eq order.digest digest then Some made else None
 
 -- the signature of the row with this name and digest
 abbrev pub signs : List Row → List ℕ → List ℕ → Option (List ℕ)

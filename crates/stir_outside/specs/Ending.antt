@@ -8,7 +8,8 @@ use Rattle.stir_outside.specs.Told.{AppendsFront}
 unfoldable pub memory_line : List ℕ
 memory_line = codes "want of memory\n"
 
--- the line was written and its status answered; or the sink failed, a prefix of the line was written, and 4 was answered
+-- the line was written and its status answered; or the sink failed, a prefix of the line was written, and 4 was
+-- answered
 abbrev pub EndsAs : Option (List ℕ) → Option (List ℕ) → ℕ → ℕ → ℕ → List ℕ → ℕ → Type 0
 EndsAs written written_now writes writes_now result line status =
     ((result ≡ status) × Appends written written_now line)

@@ -1,5 +1,6 @@
 -- What a shelf holds and counts.
-use Rattle.std.specs.Prelude.{◌≡◌, ℕ, ◌+◌, ◌<◌, nat_lt, ⊤, List, [], ◌∷◌, map, length, slice_index, Option, Some, None, if◌then◌else◌}
+use Rattle.std.specs.Prelude.{◌≡◌, ℕ, ◌+◌, ◌<◌, nat_lt, ⊤, List, [], ◌∷◌, map, length, slice_index, Option, Some, None}
+use Rattle.std.specs.Prelude.{if◌then◌else◌}
 use Rattle.std.specs.Str.{bytes_eq}
 use Rattle.stir_outside.specs.Count.{GoesOn}
 

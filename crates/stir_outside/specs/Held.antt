@@ -1,4 +1,5 @@
--- What an answers file says, as it is kept: its triples, and its signatures by what they sign, in no order that a contract names.
+-- What an answers file says, as it is kept: its triples, and its signatures by what they sign, in no order that a
+-- contract names.
 use Rattle.std.specs.Prelude.{◌≡◌, ℕ, Bool, ◌&&◌, List, Option, Some, None, Ok, if◌then◌else◌}
 use Rattle.std.specs.List.{list_any}
 use Rattle.std.specs.Map.{lookup}
@@ -25,7 +26,8 @@ same_order a b = bytes_eq a.name b.name && bytes_eq a.digest b.digest
 
 -- this signature over this digest is held as good under this key
 abbrev pub held_says : Held → List ℕ → List ℕ → List ℕ → Bool
-held_says held key digest signature = list_any (same_triple (record { key = key; digest = digest; signature = signature })) held.triples
+held_says held key digest signature =
+    list_any (same_triple (record { key = key; digest = digest; signature = signature })) held.triples
 
 abbrev pub held_for : Held → List ℕ → List ℕ → Option (List ℕ)
 held_for held name digest = lookup (same_order (record { name = name; digest = digest })) held.signatures

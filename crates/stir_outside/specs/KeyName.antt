@@ -4,7 +4,8 @@ use Rattle.std.specs.List.{list_all}
 
 -- a visible ASCII character other than `;`, `,`, `"`, `<`, `>` and backslash
 abbrev pub is_name_byte : ℕ → Bool
-is_name_byte byte = nat_le 0x21 byte && nat_le byte 0x7E && not (byte == 59 || byte == 44 || byte == 34 || byte == 60 || byte == 62 || byte == 92)
+is_name_byte byte = nat_le 0x21 byte && nat_le byte 0x7E
+    && not (byte == 59 || byte == 44 || byte == 34 || byte == 60 || byte == 62 || byte == 92)
 
 -- 1 to 64 such bytes
 unfoldable pub is_name : List ℕ → Bool

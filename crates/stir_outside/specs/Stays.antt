@@ -1,4 +1,5 @@
--- What stays over a call that uses a shelf of files or a provider of signatures: what they tell, and that no count falls.
+-- What stays over a call that uses a shelf of files or a provider of signatures: what they tell, and that no count
+-- falls.
 use Rattle.std.specs.Prelude.{◌≡◌, ◌≤◌}
 use Rattle.stir_outside.specs.Files.{CountsGoOn}
 use Rattle.stir_outside.specs.declared.provider.Provider.{Ghosts as ProviderOf}

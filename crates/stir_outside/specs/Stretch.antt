@@ -29,5 +29,6 @@ AddsSaid old new said added = (line : List ℕ) → row_of line ≡ said → Add
 
 -- what holds the rows before the stretch holds those of its lines too then; or this is the number of its first bad line
 abbrev pub AddsStretch : Held → Held → List Line → Option ℕ → Type 0
-AddsStretch old new stretch bad =
-    (text : List ℕ) (left : List (ℕ × List ℕ)) → Reached text (lines_of stretch ++ left) old → MatchOption bad (Reached text left new) (λ number. answer_rows text ≡ Err number)
+AddsStretch old new stretch bad = (text : List ℕ) (left : List (ℕ × List ℕ))
+    → Reached text (lines_of stretch ++ left) old
+    → MatchOption bad (Reached text left new) (λ number. answer_rows text ≡ Err number)

@@ -17,7 +17,8 @@ pub fn memory_line() -> &'static str
 
 /// Writes the last line and gives its status, or that of a sink that failed.
 pub fn end_with<O: Sink>(sink: &mut O, line: &str, status: Status) -> u8
-    ensures { EndsAs (O.written sink.old) (O.written sink.new) (O.faults sink.old) (O.faults sink.new) result line.now (status_number status) }
+    ensures { EndsAs (O.written sink.old) (O.written sink.new) (O.faults sink.old) (O.faults sink.new) result line.now
+        (status_number status) }
 {
     match write_whole(sink, line.as_bytes()) {
         Ok(()) => status.number(),

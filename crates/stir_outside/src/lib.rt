@@ -10,10 +10,11 @@
 //! | [`Provider`] | confirms and makes signatures | [`AnswerProvider`], [`SteadyProvider`] | outside, by an answers file |
 //! | [`Gate`] | a point that a worker passes before it judges a call | - | [`NoGate`] |
 //!
-//! Each object counts what went wrong with it. Memory forms tell what they hold, so that a clause can name the bytes; files and streams tell
-//! nothing. [`Answers`] reads an answers file (this project's own format), and its providers answer as the file says. An [`AnswersReader`] says in how
-//! many threads: [`OneThread`] or [`SeveralThreads`]. [`read_up_to`] and [`write_whole`] are the loops over a source and a sink, and [`end_with`] writes
-//! the last line of a run and gives its [`Status`].
+//! Each object counts what went wrong with it. Memory forms tell what they hold, so that a clause can name the bytes;
+//! files and streams tell nothing. [`Answers`] reads an answers file (this project's own format), and its providers
+//! answer as the file says. An [`AnswersReader`] says in how many threads: [`OneThread`] or [`SeveralThreads`].
+//! [`read_up_to`] and [`write_whole`] are the loops over a source and a sink, and [`end_with`] writes the last line of
+//! a run and gives its [`Status`].
 //!
 //! ```rust
 //! let mut input = SourceMem::new(bytes, failing);           // its reads with the numbers of `failing` fail
@@ -23,18 +24,20 @@
 //!
 //! # What it isn't
 //!
-//! No cryptography: whether a signature is good is what the answers file says. No network, no clock, no environment. The formats of the files that a
-//! shelf holds are read elsewhere (`stir_files` and the crates below it).
+//! No cryptography: whether a signature is good is what the answers file says. No network, no clock, no environment.
+//! The formats of the files that a shelf holds are read elsewhere (`stir_files` and the crates below it).
 //!
 //! # What is proved
 //!
-//! A fault comes only if the object's own count rose, and no count falls. The memory forms fail at exactly the listed calls, and the adapters raise
-//! each count at its own event alone. An answers file is read exactly, or its first bad line is named. `docs/dev/PROVED.md`, "The outside, and texts",
-//! has the clauses. What the kit's contracts say of real files and streams is trusted.
+//! A fault comes only if the object's own count rose, and no count falls. The memory forms fail at exactly the listed
+//! calls, and the adapters raise each count at its own event alone. An answers file is read exactly, or its first bad
+//! line is named. `docs/dev/PROVED.md`, "The outside, and texts", has the clauses. What the kit's contracts say of real
+//! files and streams is trusted.
 //!
 //! # Cases
 //!
-//! Sections `answers` and `outside` of `crates/vectors/stdin`, and `adapters`, `answers` and `memory` in `crates/stir_tests`.
+//! Sections `answers` and `outside` of `crates/vectors/stdin`, and `adapters`, `answers` and `memory` in
+//! `crates/stir_tests`.
 #![tactic(auto)]
 
 mod adapters;

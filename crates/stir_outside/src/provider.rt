@@ -6,8 +6,8 @@ use crate::source::Failed;
 /// What confirms and makes the signatures: ES256, that is ECDSA on P-256 with SHA-256 (RFC 7518, section 3.4).
 ///
 /// `says` tells of a key, a digest and a signature whether the signature is good, and `signs` what the key of a name
-/// makes of a digest; no call changes them. `asks` counts the calls, `faults` the failed ones, and `sign_faults` those of them
-/// that were to sign; each in 64 bits.
+/// makes of a digest; no call changes them. `asks` counts the calls, `faults` the failed ones, and `sign_faults` those
+/// of them that were to sign; each in 64 bits.
 pub trait Provider {
     ghost says: { Self → List ℕ → List ℕ → List ℕ → Bool };
 

@@ -19,9 +19,9 @@ pub enum ShelfFault {
 
 /// A shelf of named files, as a folder of the file system.
 ///
-/// `files` is the map from names to contents, if the shelf tells it; no call changes it. What a file holds are bytes: its content is what
-/// the map says, each number as a byte. `counts` are its counts of files read, missing, too long and failed, each in 64 bits; a call raises
-/// one of them, and by one, or none.
+/// `files` is the map from names to contents, if the shelf tells it; no call changes it. What a file holds are bytes:
+/// its content is what the map says, each number as a byte. `counts` are its counts of files read, missing, too long
+/// and failed, each in 64 bits; a call raises one of them, and by one, or none.
 pub trait Shelf {
     ghost files: { Self → Option Files };
 
@@ -31,13 +31,15 @@ pub trait Shelf {
     fn read(&mut self, alloc: Global, name: &str, limit: usize) -> Result<Vec<u8>, ShelfFault>
         ensures same { files self.new ≡ files self.old }
         ensures go_on { CountsGoOn (counts self.old) (counts self.new) }
-        ensures reads { (counts self.new).reads ≡ (if is_ok result then one_more (counts self.old).reads else (counts self.old).reads) }
+        ensures reads { (counts self.new).reads ≡ (if is_ok result then one_more (counts self.old).reads
+            else (counts self.old).reads) }
         ensures tries { tries (counts self.new) ≤ tries (counts self.old) + 1 }
 
         ensures within { IfOk result (λ bytes. vec_len bytes ≤ limit) }
         ensures found { IfOk result (λ bytes. OfFile (files self.old) name.now (λ held. held ≡ Some bytes.items)) }
 
-        ensures missing_rose { result ≡ Err ShelfFault.Missing → Rose (counts self.old).misses (counts self.new).misses }
+        ensures missing_rose { result ≡ Err ShelfFault.Missing
+            → Rose (counts self.old).misses (counts self.new).misses }
         ensures missing { result ≡ Err ShelfFault.Missing → OfFile (files self.old) name.now (λ held. held ≡ None) }
 
         ensures long_rose { result ≡ Err ShelfFault.Long → Rose (counts self.old).longs (counts self.new).longs }

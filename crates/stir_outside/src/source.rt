@@ -9,8 +9,9 @@ pub struct Failed;
 
 /// A source of bytes, as the standard input.
 ///
-/// `left` is what the source has left, if it tells that; `whole` is whether a read always gives as much as it has room for, if so much is left,
-/// and no call changes it. `faults` counts the reads that failed, and `reads` those that didn't, in 64 bits.
+/// `left` is what the source has left, if it tells that; `whole` is whether a read always gives as much as it has room
+/// for, if so much is left, and no call changes it. `faults` counts the reads that failed, and `reads` those that
+/// didn't, in 64 bits.
 pub trait Source {
     ghost left: { Self → Option (List ℕ) };
 

@@ -1,7 +1,8 @@
-//! Tests of what data can't show: real files and streams, memory forms by themselves, files of the longest, and threads on a live desk.
+//! Tests of what data can't show: real files and streams, memory forms by themselves, files of the longest, and threads
+//! on a live desk.
 //!
-//! No code of the product is here. Rows with an input and an answer aren't either: they are lines of `crates/vectors/stdin`,
-//! `crates/vectors/stdin` and `tests/cli`, which cost no proof.
+//! No code of the product is here. Rows with an input and an answer aren't either: they are lines of
+//! `crates/vectors/stdin`, `crates/vectors/stdin` and `tests/cli`, which cost no proof.
 //!
 //! - `adapters`: the shelf, the source and the sink over real files and streams (`stir_outside`).
 //! - `memory`, `answers`: memory forms and providers that fail on command.

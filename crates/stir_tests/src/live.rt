@@ -115,8 +115,8 @@ fn claim_by<R: Threads + Sync>(
     both(one, two)
 }
 
-/// Of 100,000 tickets a third is claimed twice, at the same time by others of eight threads: each ticket is won once, and each second
-/// claim is lost.
+/// Of 100,000 tickets a third is claimed twice, at the same time by others of eight threads: each ticket is won once,
+/// and each second claim is lost.
 #[test]
 fn eight_threads_win_each_ticket_once(rt: HostRuntime) -> Result<(), Fail> {
     let alloc = rt.alloc();
@@ -130,7 +130,8 @@ fn eight_threads_win_each_ticket_once(rt: HostRuntime) -> Result<(), Fail> {
     Ok(())
 }
 
-/// The second claim of a ticket is lost, at whichever seat; a level with one slot is full for another ticket; and what was claimed is held.
+/// The second claim of a ticket is lost, at whichever seat; a level with one slot is full for another ticket; and what
+/// was claimed is held.
 #[test]
 fn a_ticket_goes_to_its_first_claim(rt: HostRuntime) -> Result<(), Fail> {
     let (desk, mut seat) = Live::new(rt.alloc(), 1)?;

@@ -1,4 +1,5 @@
--- How clap reads the options of a command (this project's own rule): what it is told of a table of options, and what it finds.
+-- How clap reads the options of a command (this project's own rule): what it is told of a table of options, and what it
+-- finds.
 use Rattle.std.specs.Prelude.{◌≡◌, true, false, List, [], map, codes, Some, Result, Ok, Err}
 use Rattle.clap.specs.Matches.{first_value, found_of}
 use Rattle.clap.specs.Simple.{App, new_rule, new_shape}
@@ -16,7 +17,11 @@ rule_for known = record (new_rule known.name) { long = Some known.name; action =
 
 -- a command with these options: no name of a program comes before the words, and none of the options is for help
 abbrev pub app_for : List Known → App
-app_for table = record { top = record (new_shape (codes "stir")) { rules = map rule_for table; no_binary_name = true; disable_help_flag = true }; subs = [] }
+app_for table = record {
+  top =
+      record (new_shape (codes "stir")) { rules = map rule_for table; no_binary_name = true; disable_help_flag = true };
+  subs = [];
+}
 
 -- the values that were found
 abbrev pub values_in : ArgMatches → Given

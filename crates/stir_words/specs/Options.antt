@@ -1,6 +1,7 @@
--- How the words of a command line fall into options (this project's own rule). An option is one word `--name=value`, or a word
--- `--name` and a next word that is the value.
-use Rattle.std.specs.Prelude.{unwrap_or, ◌≡◌, ℕ, ◌⊎◌, Bool, true, false, not, ◌==◌, List, [], ◌∷◌, ◌++◌, codes, is_some, Option, Some, None, option_and_then, if◌then◌else◌}
+-- How the words of a command line fall into options (this project's own rule). An option is one word `--name=value`, or
+-- a word `--name` and a next word that is the value.
+use Rattle.std.specs.Prelude.{unwrap_or, ◌≡◌, ℕ, ◌⊎◌, Bool, true, false, not, ◌==◌, List, [], ◌∷◌, ◌++◌, codes, is_some}
+use Rattle.std.specs.Prelude.{Option, Some, None, option_and_then, if◌then◌else◌}
 use Rattle.std.specs.Option.{option_map, option_map_or}
 use Rattle.text_grammar.specs.Cut.{behind, cut, lacks}
 
@@ -61,7 +62,8 @@ abbrev pub pairs_from : Option (List ℕ) → List (List ℕ) → Option (List P
 pairs_from None [] = Some []
 pairs_from (Some name) [] = None
 pairs_from None (word ∷ words) = at_word (long_of word) (λ name. pairs_from (Some name) words) (pairs_from None words)
-pairs_from (Some name) (word ∷ words) = with_more (is_value word) (record { name = name; value = word }) (pairs_from None words)
+pairs_from (Some name) (word ∷ words) =
+    with_more (is_value word) (record { name = name; value = word }) (pairs_from None words)
 
 -- the options that the words are, if they fall into options
 unfoldable pub pairs_of : List (List ℕ) → Option (List Pair)
@@ -108,11 +110,13 @@ first_if fits first = if fits then Some first else None
 -- the value is the next word
 abbrev pub parted : List ℕ → List (List ℕ) → Option First
 parted name [] = None
-parted name (value ∷ words) = first_if (is_value value) (record { pair = record { name = name; value = value }; rest = words })
+parted name (value ∷ words) =
+    first_if (is_value value) (record { pair = record { name = name; value = value }; rest = words })
 
 -- the value comes after `=`
 abbrev pub joined : List ℕ → List ℕ → List (List ℕ) → Option First
-joined name value words = first_if (is_filled value) (record { pair = record { name = name; value = value }; rest = words })
+joined name value words =
+    first_if (is_filled value) (record { pair = record { name = name; value = value }; rest = words })
 
 abbrev pub first_named : List ℕ → Option (List ℕ) → List (List ℕ) → Option First
 first_named name None words = parted name words
@@ -145,4 +149,5 @@ pub record Parted (words : List (List ℕ)) (pair : Pair) (rest : List (List ℕ
 -- the words are these options, one after the other
 abbrev pub Options : List (List ℕ) → List Pair → Type 0
 Options words [] = words ≡ []
-Options words (pair ∷ pairs) = (rest : List (List ℕ)) × (Joined words pair rest ⊎ Parted words pair rest) × Options rest pairs
+Options words (pair ∷ pairs) =
+    (rest : List (List ℕ)) × (Joined words pair rest ⊎ Parted words pair rest) × Options rest pairs

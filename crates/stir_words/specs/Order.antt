@@ -1,5 +1,6 @@
 -- What a command line orders (this project's own rule): a command, and the values of its options.
-use Rattle.std.specs.Prelude.{◌≡◌, ◌≤◌, ℕ, true, List, [], ◌∷◌, codes, Option, Some, None, option_and_then, if◌then◌else◌}
+use Rattle.std.specs.Prelude.{◌≡◌, ◌≤◌, ℕ, true, List, [], ◌∷◌, codes, Option, Some, None, option_and_then}
+use Rattle.std.specs.Prelude.{if◌then◌else◌}
 use Rattle.std.specs.Option.{option_map}
 use Rattle.text_grammar.specs.Moment.{last_second}
 use Rattle.text_grammar.specs.Uri.{is_uri}
@@ -10,7 +11,8 @@ use Rattle.passport_claims.specs.Made.{has_origid}
 use Rattle.passport_claims.specs.declared.form.Form.{Form}
 use Rattle.stir_words.specs.Options.{pairs_of}
 use Rattle.stir_words.specs.Table.{Given, accepts, command_named, given_by, options_of}
-use Rattle.stir_words.specs.Values.{count_of, earlier_of, form_of, future_of, iat_of, is_key, key_of, local_in, moment_of, past_of, seed_of, size_of, workers_of, x5u_of}
+use Rattle.stir_words.specs.Values.{count_of, earlier_of, form_of, future_of, iat_of, is_key, key_of, local_in}
+use Rattle.stir_words.specs.Values.{moment_of, past_of, seed_of, size_of, workers_of, x5u_of}
 use Rattle.stir_words.specs.declared.commands.Command.{Command}
 use Rattle.stir_words.specs.declared.commands.Command.TheVariants as commands
 
@@ -46,7 +48,8 @@ pub record HolderNames : Type 0 where
   pub leaf : List ℕ
   pub table : List ℕ
 
--- under which key and when it is signed, how numbers without `+` are read, and the files with the provider's answers and of the holder
+-- under which key and when it is signed, how numbers without `+` are read, and the files with the provider's answers
+-- and of the holder
 pub record SignerView : Type 0 where
   pub key : List ℕ
   pub x5u : List ℕ
@@ -65,8 +68,8 @@ pub record DivertingView : Type 0 where
   pub earlier : List ℕ
   pub signer : SignerView
 
--- by what a call is judged, when it came and where it goes on; under which key and when its diversion is signed, and the file of the key's
--- certificate
+-- by what a call is judged, when it came and where it goes on; under which key and when its diversion is signed, and
+-- the file of the key's certificate
 pub record RetargetingView : Type 0 where
   pub judging : JudgingView
   pub key : List ℕ
@@ -102,24 +105,25 @@ pub data OrderView : Type 0 where
 -- ---- the values
 
 abbrev pub settings_of : Given → Option SettingsView
-settings_of given =
-    option_and_then (λ past. option_and_then (λ future. option_map (λ l. record { past = past; future = future; local = l }) (local_in given))
+settings_of given = option_and_then (λ past.
+    option_and_then (λ future. option_map (λ l. record { past = past; future = future; local = l }) (local_in given))
     (future_of given)) (past_of given)
 
 abbrev pub judging_of : Given → Option JudgingView
-judging_of given =
-    option_and_then (λ chains. option_and_then (λ anchors. option_and_then (λ table. option_and_then (λ answers.
-    option_map (λ settings. record { chains = chains; anchors = anchors; table = table; answers = answers; settings = settings }) (settings_of given))
-    (given (codes "answers"))) (given (codes "table"))) (given (codes "anchors"))) (given (codes "chains"))
+judging_of given = option_and_then (λ chains.
+    option_and_then (λ anchors. option_and_then (λ table. option_and_then (λ answers. option_map
+    (λ settings. record { chains = chains; anchors = anchors; table = table; answers = answers; settings = settings })
+    (settings_of given)) (given (codes "answers"))) (given (codes "table"))) (given (codes "anchors")))
+    (given (codes "chains"))
 
 abbrev pub verifying_of : Given → Option VerifyingView
-verifying_of given =
-    option_and_then (λ judging. option_map (λ workers. record { judging = judging; state = given (codes "state"); workers = workers }) (workers_of given)) (judging_of given)
+verifying_of given = option_and_then (λ judging.
+    option_map (λ workers. record { judging = judging; state = given (codes "state"); workers = workers })
+    (workers_of given)) (judging_of given)
 
 abbrev pub asking_of : Given → Option AskingView
-asking_of given =
-    option_and_then (λ chains. option_and_then (λ anchors. option_and_then (λ table.
-    option_map (λ settings. record { chains = chains; anchors = anchors; table = table; settings = settings }) (settings_of given))
+asking_of given = option_and_then (λ chains. option_and_then (λ anchors. option_and_then (λ table. option_map
+    (λ settings. record { chains = chains; anchors = anchors; table = table; settings = settings }) (settings_of given))
     (given (codes "table"))) (given (codes "anchors"))) (given (codes "chains"))
 
 -- `--leaf` and `--table` are given together, or neither is
@@ -133,13 +137,15 @@ abbrev pub holder_of : Given → Option (Option HolderNames)
 holder_of given = holder_by (given (codes "leaf")) (given (codes "table"))
 
 -- what `sign` and `divert` have in common, if each part is there
-abbrev pub signer_from : Option (List ℕ) → Option (List ℕ) → Option ℕ → Option LocalView → Option (List ℕ) → Option (Option HolderNames) → Option SignerView
-signer_from key x5u iat l answers holder =
-    option_and_then (λ k. option_and_then (λ u. option_and_then (λ i. option_and_then (λ n. option_and_then (λ a.
-    option_map (λ h. record { key = k; x5u = u; iat = i; local = n; answers = a; holder = h }) holder) answers) l) iat) x5u) key
+abbrev pub signer_from : Option (List ℕ) → Option (List ℕ) → Option ℕ → Option LocalView → Option (List ℕ)
+    → Option (Option HolderNames) → Option SignerView
+signer_from key x5u iat l answers holder = option_and_then (λ k.
+    option_and_then (λ u. option_and_then (λ i. option_and_then (λ n. option_and_then (λ a. option_map
+    (λ h. record { key = k; x5u = u; iat = i; local = n; answers = a; holder = h }) holder) answers) l) iat) x5u) key
 
 abbrev pub signer_of : Given → Option SignerView
-signer_of given = signer_from (key_of given) (x5u_of given) (iat_of given) (local_in given) (given (codes "answers")) (holder_of given)
+signer_of given = signer_from (key_of given) (x5u_of given) (iat_of given) (local_in given)
+    (given (codes "answers")) (holder_of given)
 
 abbrev pub signing_by : Form → SignerView → SigningView
 signing_by form by = record { form = form; signer = by }
@@ -160,21 +166,25 @@ abbrev pub diverting_of : Given → Option DivertingView
 diverting_of given = diverting_from (earlier_of given) (signer_of given)
 
 -- what `retarget` orders, if each part is there
-abbrev pub retargeting_from : Option JudgingView → Option (List ℕ) → Option (List ℕ) → Option ℕ → Option (List ℕ) → Option (List ℕ) → Option ℕ → Option RetargetingView
-retargeting_from judging key x5u iat target leaf moment =
-    option_and_then (λ j. option_and_then (λ k. option_and_then (λ u. option_and_then (λ i. option_and_then (λ t. option_and_then (λ l.
-    option_map (λ m. record { judging = j; key = k; x5u = u; iat = i; target = t; leaf = l; moment = m }) moment) leaf) target) iat) x5u) key) judging
+abbrev pub retargeting_from : Option JudgingView → Option (List ℕ) → Option (List ℕ) → Option ℕ → Option (List ℕ)
+    → Option (List ℕ) → Option ℕ → Option RetargetingView
+retargeting_from judging key x5u iat target leaf moment = option_and_then (λ j. option_and_then
+    (λ k. option_and_then (λ u. option_and_then (λ i. option_and_then (λ t. option_and_then (λ l. option_map (λ m.
+    record { judging = j; key = k; x5u = u; iat = i; target = t; leaf = l; moment = m }) moment) leaf) target) iat) x5u)
+    key) judging
 
 abbrev pub retargeting_of : Given → Option RetargetingView
-retargeting_of given =
-    retargeting_from (judging_of given) (key_of given) (x5u_of given) (iat_of given) (given (codes "target")) (given (codes "leaf")) (moment_of given)
+retargeting_of given = retargeting_from (judging_of given) (key_of given) (x5u_of given) (iat_of given)
+    (given (codes "target")) (given (codes "leaf")) (moment_of given)
 
 abbrev pub drilling_of : Given → Option DrillingView
-drilling_of given = option_and_then (λ seed. option_and_then (λ count. option_map (λ workers. record { seed = seed; count = count; workers = workers })
-    (workers_of given)) (count_of given)) (seed_of given)
+drilling_of given = option_and_then (λ seed. option_and_then
+    (λ count. option_map (λ workers. record { seed = seed; count = count; workers = workers }) (workers_of given))
+    (count_of given)) (seed_of given)
 
 abbrev pub claiming_of : Given → Option ClaimingView
-claiming_of given = option_and_then (λ size. option_map (λ workers. record { size = size; workers = workers }) (workers_of given)) (size_of given)
+claiming_of given = option_and_then (λ size.
+    option_map (λ workers. record { size = size; workers = workers }) (workers_of given)) (size_of given)
 
 -- ---- the whole
 
@@ -192,8 +202,8 @@ order_with commands.Once given = option_map OnceBy (claiming_of given)
 
 -- what a command orders with words that fall into options of its table
 abbrev pub order_by : Command → List (List ℕ) → Option OrderView
-order_by command words =
-    option_and_then (λ pairs. if accepts (options_of command) pairs then order_with command (given_by pairs) else None) (pairs_of words)
+order_by command words = option_and_then (λ pairs. if accepts (options_of command) pairs
+    then order_with command (given_by pairs) else None) (pairs_of words)
 
 -- what the words after the program's name order: the first is the name of a command, and the others are its options
 unfoldable pub order_of : List (List ℕ) → Option OrderView

@@ -4,7 +4,10 @@ use Rattle.std.specs.Borrow.{Bor}
 use Rattle.std.specs.Option.{option_copied, option_map}
 use Rattle.stir_words.specs.Options.{Named}
 use Rattle.stir_words.specs.Table.{Known}
-use Rattle.stir_words.specs.Order.{AskingView, ClaimingView, DivertingView, DrillingView, HolderNames, JudgingView, OrderView, RetargetingView, SettingsView, SignerView, SigningView, VerifyingView, VerifyBy, ExplainBy, AskBy, SignBy, DivertBy, RetargetBy, ShowCertificates, DrillBy, OnceBy}
+use Rattle.stir_words.specs.Order.{AskingView, ClaimingView, DivertingView, DrillingView, HolderNames, JudgingView}
+use Rattle.stir_words.specs.Order.{OrderView, RetargetingView, SettingsView, SignerView, SigningView, VerifyingView}
+use Rattle.stir_words.specs.Order.{VerifyBy, ExplainBy, AskBy, SignBy, DivertBy, RetargetBy, ShowCertificates, DrillBy}
+use Rattle.stir_words.specs.Order.{OnceBy}
 use Rattle.stir_words.specs.declared.commands.Row.{Row}
 use Rattle.stir_words.specs.declared.options.Long.{Long}
 use Rattle.stir_words.specs.declared.fault.WordsFault.{WordsFault}
@@ -16,7 +19,8 @@ use Rattle.stir_words.specs.declared.order.Asking.{Asking}
 use Rattle.stir_words.specs.declared.order.Judging.{Judging}
 use Rattle.stir_words.specs.declared.verifying.Verifying.{Verifying}
 use Rattle.stir_words.specs.declared.order.Order.{Order}
-use Rattle.stir_words.specs.declared.order.Order.TheVariants.{Verify, Explain, Ask, Sign, Divert, Retarget, Show, Drill, Once}
+use Rattle.stir_words.specs.declared.order.Order.TheVariants.{Verify, Explain, Ask, Sign, Divert, Retarget, Show, Drill}
+use Rattle.stir_words.specs.declared.order.Order.TheVariants.{Once}
 use Rattle.stir_words.specs.declared.retargeting.Retargeting.{Retargeting}
 use Rattle.stir_words.specs.declared.signing.Diverting.{Diverting}
 use Rattle.stir_words.specs.declared.signing.HolderFiles.{HolderFiles}
@@ -46,7 +50,11 @@ judging_view judging = record {
 }
 
 abbrev pub verifying_view : Verifying → VerifyingView
-verifying_view verifying = record { judging = judging_view verifying.judging; state = option_copied verifying.state; workers = verifying.workers }
+verifying_view verifying = record {
+  judging = judging_view verifying.judging;
+  state = option_copied verifying.state;
+  workers = verifying.workers;
+}
 
 abbrev pub asking_view : Asking → AskingView
 asking_view asking = record {

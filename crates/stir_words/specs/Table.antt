@@ -1,10 +1,12 @@
 -- Which options a command takes (this project's own rule).
-use Rattle.std.specs.Prelude.{◌≡◌, ℕ, Bool, true, false, not, ◌&&◌, ◌||◌, List, [], ◌∷◌, ◌++◌, codes, is_some, Option, Some, None, if◌then◌else◌}
+use Rattle.std.specs.Prelude.{◌≡◌, ℕ, Bool, true, false, not, ◌&&◌, ◌||◌, List, [], ◌∷◌, ◌++◌, codes, is_some, Option}
+use Rattle.std.specs.Prelude.{Some, None, if◌then◌else◌}
 use Rattle.std.specs.List.{list_any, list_all}
 use Rattle.std.specs.Str.{bytes_eq}
 use Rattle.stir_words.specs.Options.{Pair}
 use Rattle.stir_words.specs.declared.commands.Command.{Command}
-use Rattle.stir_words.specs.declared.commands.Command.TheVariants.{Verify, Explain, Ask, Sign, Divert, Retarget, Show, Drill, Once}
+use Rattle.stir_words.specs.declared.commands.Command.TheVariants.{Verify, Explain, Ask, Sign, Divert, Retarget, Show}
+use Rattle.stir_words.specs.declared.commands.Command.TheVariants.{Drill, Once}
 
 -- an option that a command takes
 pub record Known : Type 0 where
@@ -34,7 +36,8 @@ is_known table name = list_any (λ known. bytes_eq known.name name) table
 -- each is an option of the table, and none has the name of one before it or of one already seen
 abbrev pub are_known : List Known → List Pair → List Pair → Bool
 are_known table seen [] = true
-are_known table seen (pair ∷ pairs) = is_known table pair.name && (not (has pair.name seen) && are_known table (seen ++ pair ∷ []) pairs)
+are_known table seen (pair ∷ pairs) =
+    is_known table pair.name && (not (has pair.name seen) && are_known table (seen ++ pair ∷ []) pairs)
 
 -- all that the table requires are there
 abbrev pub has_required : List Known → List Pair → Bool
@@ -56,16 +59,18 @@ optional name = record { name = name; required = false }
 
 -- the options of settings, all of which may be left out
 abbrev pub of_settings : List Known
-of_settings = optional (codes "past") ∷ optional (codes "future") ∷ optional (codes "country") ∷ optional (codes "national") ∷ []
+of_settings =
+    optional (codes "past") ∷ optional (codes "future") ∷ optional (codes "country") ∷ optional (codes "national") ∷ []
 
 -- the options by which calls are judged
 abbrev pub of_judging : List Known
-of_judging = needed (codes "chains") ∷ needed (codes "anchors") ∷ needed (codes "table") ∷ needed (codes "answers") ∷ of_settings
+of_judging =
+    needed (codes "chains") ∷ needed (codes "anchors") ∷ needed (codes "table") ∷ needed (codes "answers") ∷ of_settings
 
 -- the same, from which state on, and on how many workers
 abbrev pub of_verifying : List Known
-of_verifying =
-    needed (codes "chains") ∷ needed (codes "anchors") ∷ needed (codes "table") ∷ needed (codes "answers") ∷ optional (codes "state") ∷ optional (codes "workers") ∷ of_settings
+of_verifying = needed (codes "chains") ∷ needed (codes "anchors") ∷ needed (codes "table") ∷ needed (codes "answers")
+    ∷ optional (codes "state") ∷ optional (codes "workers") ∷ of_settings
 
 -- the options that `sign` and `divert` have in common
 abbrev pub of_signer : List Known
@@ -75,9 +80,9 @@ of_signer =
 
 -- the options by which a call is judged, and its diversion is signed
 abbrev pub of_retargeting : List Known
-of_retargeting =
-    needed (codes "chains") ∷ needed (codes "anchors") ∷ needed (codes "table") ∷ needed (codes "answers")
-    ∷ needed (codes "key") ∷ needed (codes "x5u") ∷ needed (codes "iat") ∷ needed (codes "target") ∷ needed (codes "leaf") ∷ needed (codes "moment") ∷ of_settings
+of_retargeting = needed (codes "chains") ∷ needed (codes "anchors") ∷ needed (codes "table") ∷ needed (codes "answers")
+    ∷ needed (codes "key") ∷ needed (codes "x5u") ∷ needed (codes "iat") ∷ needed (codes "target")
+    ∷ needed (codes "leaf") ∷ needed (codes "moment") ∷ of_settings
 
 -- the options of a command
 abbrev pub options_of : Command → List Known

@@ -1,5 +1,6 @@
 -- What the values of options come to (this project's own rule).
-use Rattle.std.specs.Prelude.{unwrap_or, ℕ, Bool, ◌&&◌, ◌||◌, ◌==◌, not, nat_le, List, length, codes, Option, Some, None, option_and_then, if◌then◌else◌}
+use Rattle.std.specs.Prelude.{unwrap_or, ℕ, Bool, ◌&&◌, ◌||◌, ◌==◌, not, nat_le, List, length, codes, Option, Some}
+use Rattle.std.specs.Prelude.{None, option_and_then, if◌then◌else◌}
 use Rattle.std.specs.List.{list_all}
 use Rattle.std.specs.Option.{option_map}
 use Rattle.std.specs.Str.{bytes_eq}
@@ -101,7 +102,8 @@ earlier_of given = option_and_then exact (given (codes "earlier"))
 
 -- `shaken` with this attestation and this identifier of the call
 abbrev pub shaken_by : List ℕ → List ℕ → Option Form
-shaken_by attest origid = option_and_then (λ level. option_map (λ id. forms.Shaken level id) (text_if is_origid origid)) (attest_of attest)
+shaken_by attest origid =
+    option_and_then (λ level. option_map (λ id. forms.Shaken level id) (text_if is_origid origid)) (attest_of attest)
 
 -- a form without them
 abbrev pub plain_by : List ℕ → Option Form
@@ -119,4 +121,5 @@ form_by form None (Some origid) = None
 
 -- `--form`, `--attest` and `--origid`
 abbrev pub form_of : Given → Option Form
-form_of given = option_and_then (λ form. form_by form (given (codes "attest")) (given (codes "origid"))) (given (codes "form"))
+form_of given =
+    option_and_then (λ form. form_by form (given (codes "attest")) (given (codes "origid"))) (given (codes "form"))

@@ -15,7 +15,8 @@ use clap::error::ErrorKind;
 use clap::{Arg, ArgAction, ArgMatches, Command, Error};
 use std::alloc::{AllocError, Global};
 
-/// What the words give for the options of a table, if they are those of the table, each at most once, and all that it requires.
+/// What the words give for the options of a table, if they are those of the table, each at most once, and all that it
+/// requires.
 pub(crate) fn parsed<'a>(
     alloc: Global,
     table: &[Row],

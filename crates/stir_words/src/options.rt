@@ -3,7 +3,8 @@ ghost use Rattle.std.specs.Prelude.{◌≡◌, ◌<◌, ◌==◌, true, false, c
 ghost use Rattle.std.specs.List.{position_or_len, before_first, after_first};
 ghost use Rattle.std.specs.Option.{option_copied, option_map};
 ghost use Rattle.text_grammar.specs.Cut.{behind};
-ghost use Rattle.stir_words.specs.Options.{are_formed, are_options, is_value, long_of, named, step, step_named, step_with};
+ghost use Rattle.stir_words.specs.Options.{are_formed, are_options, is_value, long_of, named, step, step_named};
+ghost use Rattle.stir_words.specs.Options.{step_with};
 ghost use Rattle.stir_words.specs.Seen.{named_of, texts};
 
 /// What a word says that begins with two dashes: a name, and the value after its first `=` if it has one.
@@ -27,7 +28,8 @@ fn behind_dashes(word: &str) -> Option<&str>
 /// What comes before the first `=`, and what after it.
 fn parts_of(text: &str) -> Option<(&str, &str)>
     ensures { MatchOption result (position_or_len (λ byte. byte == 61) text.now ≡ length text.now)
-        (λ parts. (parts.0.now ≡ before_first (λ byte. byte == 61) text.now) × (parts.1.now ≡ after_first (λ byte. byte == 61) text.now)
+        (λ parts. (parts.0.now ≡ before_first (λ byte. byte == 61) text.now)
+        × (parts.1.now ≡ after_first (λ byte. byte == 61) text.now)
         × (position_or_len (λ byte. byte == 61) text.now < length text.now)) }
 {
     text.split_once('=')
@@ -74,7 +76,8 @@ fn is_value(word: &str) -> bool
     }
 }
 
-/// Whether a name waits for its value after this word, given whether one waits before it. None if the word can't come there.
+/// Whether a name waits for its value after this word, given whether one waits before it. None if the word can't come
+/// there.
 fn step(waits: bool, word: &str) -> Option<bool>
     ensures { result ≡ step waits word.now }
 {

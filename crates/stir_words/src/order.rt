@@ -2,9 +2,11 @@
 ghost use Rattle.std.specs.Prelude.{◌≡◌, ◌↔◌, ℕ, List, true, Some, IfOk};
 ghost use Rattle.std.specs.Option.{option_map};
 ghost use Rattle.stir_words.specs.Options.{pairs_of, Options, Pair};
-ghost use Rattle.stir_words.specs.Order.{asking_of, claiming_of, drilling_of, judging_of, order_by, order_of, order_with, settings_of, verifying_of, CanBeSigned, OrderView};
+ghost use Rattle.stir_words.specs.Order.{asking_of, claiming_of, drilling_of, judging_of, order_by, order_of};
+ghost use Rattle.stir_words.specs.Order.{order_with, settings_of, verifying_of, CanBeSigned, OrderView};
 ghost use Rattle.stir_words.specs.Rows.{IsOrdered};
-ghost use Rattle.stir_words.specs.Seen.{asking_view, claiming_view, drilling_view, judging_view, order_view, settings_view, texts, verifying_view, Orders};
+ghost use Rattle.stir_words.specs.Seen.{asking_view, claiming_view, drilling_view, judging_view, order_view};
+ghost use Rattle.stir_words.specs.Seen.{settings_view, texts, verifying_view, Orders};
 ghost use Rattle.stir_words.specs.Table.{Accepted, Known, accepts};
 ghost use Rattle.stir_words.specs.ClapRules.{values_in};
 
@@ -37,7 +39,8 @@ pub struct Judging<'a> {
     pub settings: Settings,
 }
 
-/// By what the questions are found that the provider of signatures is asked: the names of three files, and the settings.
+/// By what the questions are found that the provider of signatures is asked: the names of three files, and the
+/// settings.
 #[derive(Clone, Copy, Debug)]
 pub struct Asking<'a> {
     /// The chain map.
@@ -76,33 +79,38 @@ pub enum Order<'a> {
 impl<'a> Order<'a> {
     /// What the words after the program's name order, or that they are refused.
     ///
-    /// The first word is the name of a command. The others fall into options. An option is `--name=value`, or `--name` and a next word
-    /// that is the value and doesn't begin with `-`. No value is empty, and with `=` it is all that comes after the first `=`. Each is an
-    /// option of the command, at most once, and all that the command requires are there.
+    /// The first word is the name of a command. The others fall into options. An option is `--name=value`, or `--name`
+    /// and a next word that is the value and doesn't begin with `-`. No value is empty, and with `=` it is all that
+    /// comes after the first `=`. Each is an option of the command, at most once, and all that the command requires are
+    /// there.
     ///
-    /// `verify` and `explain` require `--chains`, `--anchors`, `--table` and `--answers`, each the name of a file, and `ask` requires the first
-    /// three. All three take `--past`, a number of at most 86,400 (60), `--future`, the same (5), `--country`, 1 to 3 digits (1), and
-    /// `--national`, a number (10). The last two have to make a [`Local`](tn_values::Local). `verify` takes `--workers` as well, a number from
-    /// 1 to 8 (1), and `--state`, the name of a file. Numbers are decimal digits without a leading zero. `show` takes no option. `drill`
-    /// requires `--seed`, a number below 2^64, and `--count`, a number of at most 100,000, and takes `--workers`. `once` requires `--size`, a
-    /// number from 1 to 1,048,576, and takes `--workers`.
+    /// `verify` and `explain` require `--chains`, `--anchors`, `--table` and `--answers`, each the name of a file, and
+    /// `ask` requires the first three. All three take `--past`, a number of at most 86,400 (60), `--future`, the same
+    /// (5), `--country`, 1 to 3 digits (1), and `--national`, a number (10). The last two have to make a
+    /// [`Local`](tn_values::Local). `verify` takes `--workers` as well, a number from 1 to 8 (1), and `--state`, the
+    /// name of a file. Numbers are decimal digits without a leading zero. `show` takes no option. `drill` requires
+    /// `--seed`, a number below 2^64, and `--count`, a number of at most 100,000, and takes `--workers`. `once`
+    /// requires `--size`, a number from 1 to 1,048,576, and takes `--workers`.
     ///
-    /// `sign` and `divert` require `--key`, the name of a key, `--x5u`, the URI of its certificates, `--iat`, a number of at most
-    /// 253,402,300,799, and `--answers`, the name of a file. They take `--leaf` and `--table`, the names of two files that are given
-    /// together or not at all, `--country` and `--national`. `sign` requires `--form` as well, which is `base`, `compact` or `shaken`.
-    /// Exactly with `shaken` come `--attest`, which is `A`, `B` or `C`, and `--origid`, a UUID in 36 characters. `divert` requires
-    /// `--earlier`, a telephone number.
+    /// `sign` and `divert` require `--key`, the name of a key, `--x5u`, the URI of its certificates, `--iat`, a number
+    /// of at most 253,402,300,799, and `--answers`, the name of a file. They take `--leaf` and `--table`, the names of
+    /// two files that are given together or not at all, `--country` and `--national`. `sign` requires `--form` as well,
+    /// which is `base`, `compact` or `shaken`. Exactly with `shaken` come `--attest`, which is `A`, `B` or `C`, and
+    /// `--origid`, a UUID in 36 characters. `divert` requires `--earlier`, a telephone number.
     ///
-    /// `retarget` requires the four files of `verify`, `--key`, `--x5u`, `--iat`, `--target`, any text, `--leaf`, and `--moment`, a number of at most
-    /// 253,402,300,799. It takes `--past`, `--future`, `--country` and `--national`.
+    /// `retarget` requires the four files of `verify`, `--key`, `--x5u`, `--iat`, `--target`, any text, `--leaf`, and
+    /// `--moment`, a number of at most 253,402,300,799. It takes `--past`, `--future`, `--country` and `--national`.
     #[tactic(auto, using(crate::proofs::OptionLaws::options_are, crate::proofs::AcceptLaws::accepted_are, crate::proofs::SigningLaws::can_be_signed))]
     pub fn of(alloc: Global, words: &'a [&'a str]) -> Result<Order<'a>, WordsFault>
         ensures exact { Orders (order_of (texts words.now)) result }
         // How words fall into options, and which of them a table accepts.
-        ensures options { (list : List (List ℕ)) (pairs : List Pair) → (pairs_of list ≡ Some pairs) ↔ Options list pairs }
-        ensures accepted { (table : List Known) (pairs : List Pair) → (accepts table pairs ≡ true) ↔ Accepted table pairs }
+        ensures options { (list : List (List ℕ)) (pairs : List Pair)
+            → (pairs_of list ≡ Some pairs) ↔ Options list pairs }
+        ensures accepted { (table : List Known) (pairs : List Pair)
+            → (accepts table pairs ≡ true) ↔ Accepted table pairs }
         // The same row by row: what each option says, and what stands there if it isn't given.
-        ensures rows { (list : List (List ℕ)) (order : OrderView) → (order_of list ≡ Some order) ↔ IsOrdered list order }
+        ensures rows { (list : List (List ℕ)) (order : OrderView)
+            → (order_of list ≡ Some order) ↔ IsOrdered list order }
         // What is to be signed is as signing takes it for granted.
         ensures valid { IfOk result (λ order. CanBeSigned (order_view order)) }
     {

@@ -22,8 +22,8 @@ pub struct HolderFiles<'a> {
 /// By which key it is signed, when, and for whom.
 #[derive(Clone, Copy, Debug)]
 pub struct Signer<'a> {
-    /// The name by which the provider of signatures knows the key: 1 to 64 bytes of visible ASCII other than `;`, `,`, `"`, `<`, `>` and
-    /// backslash.
+    /// The name by which the provider of signatures knows the key: 1 to 64 bytes of visible ASCII other than `;`, `,`,
+    /// `"`, `<`, `>` and backslash.
     pub key: &'a str,
     /// The URI of the key's certificates: 1 to 2,048 bytes of visible ASCII other than `"`, `<`, `>` and backslash.
     pub x5u: &'a str,
@@ -102,7 +102,8 @@ fn holder_of<'a>(given: &ArgMatches<'a>) -> Option<Option<HolderFiles<'a>>>
 
 /// The files of the holder, which are given together or not at all.
 fn holder_by<'a>(leaf: Option<&'a str>, table: Option<&'a str>) -> Option<Option<HolderFiles<'a>>>
-    ensures { option_map (option_map holder_view) result ≡ holder_by (option_copied leaf.entry) (option_copied table.entry) }
+    ensures { option_map (option_map holder_view) result
+        ≡ holder_by (option_copied leaf.entry) (option_copied table.entry) }
 {
     match (leaf, table) {
         (Some(leaf), Some(table)) => Some(Some(HolderFiles { leaf, table })),

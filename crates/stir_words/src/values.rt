@@ -6,7 +6,9 @@ ghost use Rattle.text_grammar.specs.Decimal.{number_up_to};
 ghost use Rattle.text_grammar.specs.Uri.{is_uri};
 ghost use Rattle.passport_claims.specs.Origid.{is_origid};
 ghost use Rattle.stir_words.specs.ClapRules.{values_in};
-ghost use Rattle.stir_words.specs.Values.{count_of, country_of, earlier_of, form_by, form_of, future_of, iat_of, is_key, is_key_byte, key_of, local_in, moment_of, national_of, past_of, plain_by, seed_of, shaken_by, size_of, text_if, workers_of, x5u_of};
+ghost use Rattle.stir_words.specs.Values.{count_of, country_of, earlier_of, form_by, form_of, future_of, iat_of};
+ghost use Rattle.stir_words.specs.Values.{is_key, is_key_byte, key_of, local_in, moment_of, national_of, past_of};
+ghost use Rattle.stir_words.specs.Values.{plain_by, seed_of, shaken_by, size_of, text_if, workers_of, x5u_of};
 
 use clap::ArgMatches;
 use passport_claims::{Attest, Form, is_origid};

@@ -1,5 +1,6 @@
 -- A text cut in two: at the first of its bytes that is a given one, or after a given prefix.
-use Rattle.std.specs.Prelude.{Some, None, if◌then◌else◌, length, ℕ, ◌+◌, ◌==◌, Bool, not, List, take, drop, position, Option}
+use Rattle.std.specs.Prelude.{Some, None, if◌then◌else◌, length, ℕ, ◌+◌, ◌==◌, Bool, not, List, take, drop, position}
+use Rattle.std.specs.Prelude.{Option}
 use Rattle.std.specs.List.{list_all}
 use Rattle.std.specs.Option.{option_map}
 use Rattle.std.specs.Str.{bytes_eq}

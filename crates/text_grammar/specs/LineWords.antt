@@ -1,5 +1,6 @@
 -- The words of a line (this project's own rule).
-use Rattle.std.specs.Prelude.{◌≡◌, ⊤, ℕ, ◌≤◌, Bool, true, not, ◌&&◌, ◌==◌, nat_le, List, [], ◌∷◌, length, Option, Some, None, if◌then◌else◌}
+use Rattle.std.specs.Prelude.{◌≡◌, ⊤, ℕ, ◌≤◌, Bool, true, not, ◌&&◌, ◌==◌, nat_le, List, [], ◌∷◌, length, Option, Some}
+use Rattle.std.specs.Prelude.{None, if◌then◌else◌}
 use Rattle.std.specs.List.{slice_split, list_all, join_with_byte}
 use Rattle.text_grammar.specs.Cut.{lacks}
 use Rattle.text_grammar.specs.declared.words.Words.{Words}
@@ -18,7 +19,8 @@ none_empty parts = if list_all is_word parts then Some parts else None
 
 -- the words of a line that has two to four, with exactly one space between each two
 unfoldable pub line_words : List ℕ → Option (List (List ℕ))
-line_words line = if nat_le 2 (length (parts line)) && nat_le (length (parts line)) 4 then none_empty (parts line) else None
+line_words line =
+    if nat_le 2 (length (parts line)) && nat_le (length (parts line)) 4 then none_empty (parts line) else None
 
 -- ---- the same in other words
 

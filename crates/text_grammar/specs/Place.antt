@@ -1,5 +1,5 @@
--- Where a text that isn't in a grammar stops being the beginning of one that is (this project's own rule for the places of
--- faults).
+-- Where a text that isn't in a grammar stops being the beginning of one that is (this project's own rule for the places
+-- of faults).
 use Rattle.std.specs.Prelude.{ℕ, ◌≤◌, ◌<◌, List, ◌++◌, length, take}
 
 -- Some text of the grammar begins so.

@@ -11,7 +11,8 @@ read_lines take [] state = Ok state
 read_lines take (line ∷ more) state = go_on (take state line.1) line.0 (λ next. read_lines take more next)
 
 -- the lines before it are read, and the line of this number is refused after them
-pub record Refuses {S : Type 0} (take : S → List ℕ → Option S) (lines : List (ℕ × List ℕ)) (state : S) (number : ℕ) : Type 0 where
+pub record Refuses {S : Type 0} (take : S → List ℕ → Option S) (lines : List (ℕ × List ℕ)) (state : S)
+    (number : ℕ) : Type 0 where
   pub before : List (ℕ × List ℕ)
   pub line : List ℕ
   pub behind : List (ℕ × List ℕ)

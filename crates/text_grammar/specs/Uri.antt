@@ -1,4 +1,5 @@
--- The URI of a certificate, as an Identity header field's `info` has it (RFC 8224, section 4; this project's own limits).
+-- The URI of a certificate, as an Identity header field's `info` has it (RFC 8224, section 4; this project's own
+-- limits).
 use Rattle.std.specs.Prelude.{ℕ, Bool, ◌&&◌, nat_le, List, length}
 use Rattle.std.specs.List.{list_all}
 use Rattle.text_grammar.specs.Bytes.{is_uri_byte}

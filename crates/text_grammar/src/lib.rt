@@ -1,14 +1,16 @@
-//! What the readers of text formats share: byte classes, URIs, decimal numbers, a text cut in two, the lines and words of a file, and grammars in proofs.
+//! What the readers of text formats share: byte classes, URIs, decimal numbers, a text cut in two, the lines and words
+//! of a file, and grammars in proofs.
 //!
 //! Each function takes bytes and answers a value, or a view into the bytes; none takes memory.
 //!
 //! - One byte: [`is_blank`], [`is_name_byte`], [`is_visible`], [`is_uri_byte`], [`lower`].
-//! - A prefix of a text: [`blank_count`] and [`name_len`] count, [`skip_blanks`] and [`front`] cut. [`byte_at`], [`letter_at`], [`word_at`] and
-//!   [`some_at`] take what a format asks for, or answer a [`Stop`] with the text from where the reader can't go on.
+//! - A prefix of a text: [`blank_count`] and [`name_len`] count, [`skip_blanks`] and [`front`] cut. [`byte_at`],
+//!   [`letter_at`], [`word_at`] and [`some_at`] take what a format asks for, or answer a [`Stop`] with the text from
+//!   where the reader can't go on.
 //! - A whole text: [`is_word`], [`read_number`], [`is_uri`].
 //! - A text in two: [`cut`] at the first such byte, [`behind`] after a prefix.
-//! - A file of rows, as the chain map, the code table and the answers file are (this project's own form): [`Lines`] with their numbers, and
-//!   [`words_of`] a line.
+//! - A file of rows, as the chain map, the code table and the answers file are (this project's own form): [`Lines`]
+//!   with their numbers, and [`words_of`] a line.
 //!
 //! ```text
 //! the bytes of a file
@@ -29,15 +31,18 @@
 //! let Some(Words::Two(x5u, file)) = words_of(line.text) else { .. };
 //! ```
 //!
-//! What the words of a line mean, and which rows a file refuses, is said by the crate of each file: `cert_store`, `tn_auth_list`, `stir_outside`. The
-//! log, the state file, a message head and an Identity value have forms of their own (`call_log`, `state_text`, `sip_message`, `identity_header`).
-//! URIs aren't taken apart, only tested ([`is_uri`]: 1 to 2,048 bytes, this project's own rule).
+//! What the words of a line mean, and which rows a file refuses, is said by the crate of each file: `cert_store`,
+//! `tn_auth_list`, `stir_outside`. The log, the state file, a message head and an Identity value have forms of their
+//! own (`call_log`, `state_text`, `sip_message`, `identity_header`). URIs aren't taken apart, only tested ([`is_uri`]:
+//! 1 to 2,048 bytes, this project's own rule).
 //!
-//! Proved: each function gives exactly what its list function in `specs/` gives, and a line has these words just if it is these words with single spaces
-//! ([`words_law`]). `specs/Rows` says what a file of rows is. `specs/Grammar` has the pieces of which formats are put together, and `proofs/Laws` joins a
-//! grammar, its reader and the place of a fault. `docs/dev/PROVED.md` lists them under "The outside, and texts".
+//! Proved: each function gives exactly what its list function in `specs/` gives, and a line has these words just if it
+//! is these words with single spaces ([`words_law`]). `specs/Rows` says what a file of rows is. `specs/Grammar` has the
+//! pieces of which formats are put together, and `proofs/Laws` joins a grammar, its reader and the place of a fault.
+//! `docs/dev/PROVED.md` lists them under "The outside, and texts".
 //!
-//! Cases: sections `text` (`text.lines`, `text.line_count`, `text.words` among them) and `tokens` (`tokens.is_uri`) of `crates/vectors/stdin`.
+//! Cases: sections `text` (`text.lines`, `text.line_count`, `text.words` among them) and `tokens` (`tokens.is_uri`) of
+//! `crates/vectors/stdin`.
 #![tactic(auto)]
 
 mod decimal;
@@ -58,8 +63,8 @@ pub use split::{behind, cut};
 pub use uri::{is_uri, uri_law, uri_text};
 pub use words::{Words, words_law, words_of};
 
-/// The last second of the year 9999, in Unix time: the latest moment that a text of this program names (this project's own
-/// limit).
+/// The last second of the year 9999, in Unix time: the latest moment that a text of this program names (this project's
+/// own limit).
 pub const LAST_SECOND: u64 = 253_402_300_799;
 
 /// Where a reader can't go on: the rest of the text from there.

@@ -15,8 +15,8 @@ pub enum Words<'a> {
 
 /// The words of a line, with exactly one space between each two.
 ///
-/// None if there are fewer than two words or more than four, or if a word is empty, as at the ends of the line or between two spaces in
-/// a row.
+/// None if there are fewer than two words or more than four, or if a word is empty, as at the ends of the line or
+/// between two spaces in a row.
 #[tactic(auto, using(crate::proofs::WordLaws::one_part, crate::proofs::WordLaws::two_parts, crate::proofs::WordLaws::three_parts, crate::proofs::WordLaws::four_parts, crate::proofs::WordLaws::more_parts))]
 pub fn words_of(line: &[u8]) -> Option<Words<'_>>
     ensures { option_map word_list result ≡ line_words line.now }
@@ -48,8 +48,8 @@ fn with_none_empty(words: Words<'_>) -> Option<Words<'_>>
     if some_empty { None } else { Some(words) }
 }
 
-/// A law, with nothing to do: a line has these words exactly if it is two to four words without a space, with one space between each
-/// two.
+/// A law, with nothing to do: a line has these words exactly if it is two to four words without a space, with one space
+/// between each two.
 pub fn words_law()
     ensures { (line : List ℕ) (words : List (List ℕ)) → (line_words line ≡ Some words) ↔ IsLineOf line words }
 {}

@@ -1,5 +1,5 @@
--- Service provider codes: `ServiceProviderCode` of RFC 8226, section 9, an IA5String. That it is visible ASCII, without a
--- blank and at most 32 bytes long, is this project's own rule.
+-- Service provider codes: `ServiceProviderCode` of RFC 8226, section 9, an IA5String. That it is visible ASCII, without
+-- a blank and at most 32 bytes long, is this project's own rule.
 use Rattle.std.specs.Prelude.{ℕ, Bool, ◌&&◌, nat_le, List, length, Option, Some, None, if◌then◌else◌}
 use Rattle.std.specs.List.{list_all}
 

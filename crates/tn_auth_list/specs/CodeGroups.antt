@@ -1,5 +1,6 @@
 -- What the rows of a code table give each code together, as it is kept while the table is read.
-use Rattle.std.specs.Prelude.{◌≡◌, ℕ, ◌↔◌, ◌+◌, ◌⊎◌, Bool, true, false, ◌&&◌, ◌||◌, nat_lt, is_some, IsSome, unwrap_or, List, [], ◌∷◌, ◌++◌, Option, Some, if◌then◌else◌}
+use Rattle.std.specs.Prelude.{◌≡◌, ℕ, ◌↔◌, ◌+◌, ◌⊎◌, Bool, true, false, ◌&&◌, ◌||◌, nat_lt, is_some, IsSome, unwrap_or}
+use Rattle.std.specs.Prelude.{List, [], ◌∷◌, ◌++◌, Option, Some, if◌then◌else◌}
 use Rattle.std.specs.Ordering.{nat_cmp}
 use Rattle.std.specs.Cmp.Lexicographic.{slice_cmp}
 use Rattle.std.specs.BTreeMap.{BTreeMap, get, btree_map_len, Updates}
@@ -41,13 +42,14 @@ pub record IsGroups (rows : List Row) (groups : Groups) : Type 0 where
 
 -- a row was added to what its code has, and the other codes have what they had
 pub record PutsRow (old new : BTreeMap (List ℕ) GroupView) (row : Row) : Type 0 where
-  pub groups : Updates (slice_cmp nat_cmp) old new row.code (Some (with_gives (unwrap_or (get (slice_cmp nat_cmp) old row.code) no_group) row.gives))
+  pub groups : Updates (slice_cmp nat_cmp) old new row.code
+      (Some (with_gives (unwrap_or (get (slice_cmp nat_cmp) old row.code) no_group) row.gives))
   pub count : btree_map_len new ≡ btree_map_len old + (if is_some (get (slice_cmp nat_cmp) old row.code) then 0 else 1)
 
 -- with one row more the limits hold
 abbrev pub has_room : Groups → Row → Bool
-has_room groups row = (nat_lt (btree_map_len groups.by_code) 20000 || is_some (get (slice_cmp nat_cmp) groups.by_code row.code))
-    && (nat_lt groups.given 200000 || is_all row.gives)
+has_room groups row = (nat_lt (btree_map_len groups.by_code) 20000
+    || is_some (get (slice_cmp nat_cmp) groups.by_code row.code)) && (nat_lt groups.given 200000 || is_all row.gives)
 
 -- what is held grants what the rows of the group give
 abbrev pub HeldFrom : Option GroupView → Option Held → Type 0
@@ -55,4 +57,5 @@ HeldFrom group held = (rows : List Row) (code : List ℕ) → IsGroupOf rows cod
 
 -- each code has what its group gives, and no other code has anything
 abbrev pub HeldByCode : BTreeMap (List ℕ) GroupView → BTreeMap (List ℕ) Held → Type 0
-HeldByCode groups held = (code : List ℕ) → HeldFrom (get (slice_cmp nat_cmp) groups code) (get (slice_cmp nat_cmp) held code)
+HeldByCode groups held = (code : List ℕ)
+    → HeldFrom (get (slice_cmp nat_cmp) groups code) (get (slice_cmp nat_cmp) held code)

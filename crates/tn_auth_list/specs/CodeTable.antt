@@ -1,6 +1,7 @@
--- The code table: which telephone numbers a service provider code stands for (this project's own rule). Each line gives a code
--- all numbers, a range of them or a single one, and lines of one code add up.
-use Rattle.std.specs.Prelude.{◌≡◌, ℕ, ◌-◌, ◌^◌, ◌⊎◌, Bool, true, false, not, ◌&&◌, nat_le, List, [], ◌∷◌, ◌++◌, map, count_by, Option, Some, None, option_and_then, Result, if◌then◌else◌}
+-- The code table: which telephone numbers a service provider code stands for (this project's own rule). Each line gives
+-- a code all numbers, a range of them or a single one, and lines of one code add up.
+use Rattle.std.specs.Prelude.{◌≡◌, ℕ, ◌-◌, ◌^◌, ◌⊎◌, Bool, true, false, not, ◌&&◌, nat_le, List, [], ◌∷◌, ◌++◌, map}
+use Rattle.std.specs.Prelude.{count_by, Option, Some, None, option_and_then, Result, if◌then◌else◌}
 use Rattle.std.specs.Option.{option_map}
 use Rattle.std.specs.Set.{distinct_count}
 use Rattle.std.specs.Str.{bytes_eq}
@@ -18,19 +19,19 @@ use Rattle.tn_auth_list.specs.declared.table_rows.Row.{Row}
 
 -- ---- a line
 
--- the numbers of the range that the words START and COUNT write: START is digits alone and may begin with zeros, COUNT is a number of at
--- least 2 and below 2 to the 64th
+-- the numbers of the range that the words START and COUNT write: START is digits alone and may begin with zeros, COUNT
+-- is a number of at least 2 and below 2 to the 64th
 abbrev pub range_of : List ℕ → List ℕ → Option Gives
-range_of start count =
-    option_and_then (λ first. option_and_then (λ size. if nat_le 2 size then option_map Range (span_of first size) else None)
-    (number_up_to (2 ^ 64 - 1) count)) (exact start)
+range_of start count = option_and_then (λ first. option_and_then (λ size. if nat_le 2 size
+    then option_map Range (span_of first size) else None) (number_up_to (2 ^ 64 - 1) count)) (exact start)
 
 -- the second of two words: `*` is all numbers, and any other is a number
 abbrev pub given_of : List ℕ → Option Gives
 given_of word = if bytes_eq word (42 ∷ []) then Some All else option_map Single (exact word)
 
 abbrev pub with_code : List ℕ → Option Gives → Option Row
-with_code code gives = option_and_then (λ of. option_map (λ given. record { code = of; gives = given }) gives) (code_of code)
+with_code code gives =
+    option_and_then (λ of. option_map (λ given. record { code = of; gives = given }) gives) (code_of code)
 
 -- `CODE *`, `CODE NUMBER` or `CODE START COUNT`
 abbrev pub row_of_words : List (List ℕ) → Option Row

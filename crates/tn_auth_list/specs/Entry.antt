@@ -1,6 +1,7 @@
--- The entries of an authority list: `TNEntry` of RFC 8226, section 9, of which there is one at least. That there are at most
--- 1,000, and no range of a single number, is this project's own rule.
-use Rattle.std.specs.Prelude.{◌^◌, Bool, false, not, ◌&&◌, ◌==◌, nat_le, nat_lt, List, length, Option, Some, None, if◌then◌else◌}
+-- The entries of an authority list: `TNEntry` of RFC 8226, section 9, of which there is one at least. That there are at
+-- most 1,000, and no range of a single number, is this project's own rule.
+use Rattle.std.specs.Prelude.{◌^◌, Bool, false, not, ◌&&◌, ◌==◌, nat_le, nat_lt, List, length, Option, Some, None}
+use Rattle.std.specs.Prelude.{if◌then◌else◌}
 use Rattle.std.specs.List.{list_all}
 use Rattle.tn_values.specs.Digit.{are_digits}
 use Rattle.tn_values.specs.Number.{is_number}

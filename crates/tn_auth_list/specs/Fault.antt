@@ -1,4 +1,5 @@
--- The faults of an authority list, by kind and place: this project's own rule. A place counts from the list's first byte.
+-- The faults of an authority list, by kind and place: this project's own rule. A place counts from the list's first
+-- byte.
 use Rattle.std.specs.Prelude.{◌≤◌, ℕ, Option, Some, None, Result, Ok, Err, ⊤}
 use Rattle.lists.specs.Given as given
 use Rattle.der_reader.specs.Part.{at_kind}

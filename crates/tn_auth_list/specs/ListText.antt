@@ -1,4 +1,5 @@
--- The DER text of an authority list: `TNAuthorizationList` of RFC 8226, section 9, in the encoding of X.690, section 10.
+-- The DER text of an authority list: `TNAuthorizationList` of RFC 8226, section 9, in the encoding of X.690, section
+-- 10.
 use Rattle.std.specs.Prelude.{◌≡◌, ℕ, ◌≤◌, true, List, ◌++◌, length}
 use Rattle.std.specs.List.{list_all, flat_map}
 use Rattle.der_reader.specs.Elem.{element_text}

@@ -1,5 +1,6 @@
 -- What reading an authority list gives: its entries, or the first fault in the order in which its elements are read.
-use Rattle.std.specs.Prelude.{ℕ, zero, suc, ◌==◌, nat_lt, Bool, List, [], ◌∷◌, ◌++◌, length, Option, Some, None, Result, Ok, Err, if◌then◌else◌}
+use Rattle.std.specs.Prelude.{ℕ, zero, suc, ◌==◌, nat_lt, Bool, List, [], ◌∷◌, ◌++◌, length, Option, Some, None, Result}
+use Rattle.std.specs.Prelude.{Ok, Err, if◌then◌else◌}
 use Rattle.der_reader.specs.declared.fault.DerFault.{DerFault}
 use Rattle.der_reader.specs.Integer.{unsigned_of}
 use Rattle.tn_values.specs.Digit.{are_digits}
@@ -61,7 +62,8 @@ entry_in item =
     else (if item.tag == single_tag then single_in item.content
     else Err (der_at item.place)))
 
--- after these entries as many as there is room for, up to the end of the part; one more is past the limit where it begins
+-- after these entries as many as there is room for, up to the end of the part; one more is past the limit where it
+-- begins
 unfoldable pub entries_from : ℕ → List Entry → PartView → Result (List Entry) Fault
 entries_from zero before part = if length part.left == 0 then Ok before else Err (past_limit_at part.place)
 entries_from (suc room) before part =

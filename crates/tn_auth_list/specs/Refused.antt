@@ -1,6 +1,7 @@
--- Bytes that are no authority list, and their first fault: what is wrong with the first of their elements with which anything is, of a kind of
--- `ListFault`. This is this project's own rule.
-use Rattle.std.specs.Prelude.{◌≡◌, ◌≢◌, ◌⊎◌, ℕ, zero, suc, ◌+◌, ◌≤◌, ◌<◌, ◌^◌, true, List, [], ◌++◌, length, Result, Ok, Err, ⊤}
+-- Bytes that are no authority list, and their first fault: what is wrong with the first of their elements with which
+-- anything is, of a kind of `ListFault`. This is this project's own rule.
+use Rattle.std.specs.Prelude.{◌≡◌, ◌≢◌, ◌⊎◌, ℕ, zero, suc, ◌+◌, ◌≤◌, ◌<◌, ◌^◌, true, List, [], ◌++◌, length, Result, Ok}
+use Rattle.std.specs.Prelude.{Err, ⊤}
 use Rattle.std.specs.List.{list_all, flat_map}
 use Rattle.der_reader.specs.Broken.{Behind, First, IsTagged, LeftOver, Unless, Within}
 use Rattle.der_reader.specs.Elem.{element_text}
@@ -17,7 +18,8 @@ use Rattle.tn_auth_list.specs.declared.faults.ListFault.{ListFault}
 use Rattle.tn_auth_list.specs.declared.faults.ListFault.TheVariants.{At, Memory}
 use Rattle.tn_auth_list.specs.Code.{is_code}
 use Rattle.tn_auth_list.specs.Entry.{is_entry}
-use Rattle.tn_auth_list.specs.ListText.{ListText, code_tag, entry_content, entry_tag, entry_text, range_tag, single_tag, span_text}
+use Rattle.tn_auth_list.specs.ListText.{ListText, code_tag, entry_content, entry_tag, entry_text, range_tag, single_tag}
+use Rattle.tn_auth_list.specs.ListText.{span_text}
 
 -- ---- what elements have to be
 
@@ -45,7 +47,8 @@ IsItemOf item entry = (item.tag ≡ entry_tag entry) × (item.content.left ≡ e
 
 -- the content of the SEQUENCE of a list of these entries
 abbrev pub IsContentOf : List ℕ → List Entry → Type 0
-IsContentOf text entries = (text ≡ flat_map entry_text entries) × (1 ≤ length entries) × (length entries ≤ 1000) × (list_all is_entry entries ≡ true)
+IsContentOf text entries = (text ≡ flat_map entry_text entries) × (1 ≤ length entries) × (length entries ≤ 1000)
+    × (list_all is_entry entries ≡ true)
 
 -- ---- what is wrong with them
 
@@ -62,7 +65,8 @@ WrongSpan = First (Unless (IsTagged ia5_string_tag) 1 (Unless IsStart 4 (Behind 
 
 -- in an entry [1]: a SEQUENCE, and nothing more
 abbrev pub WrongRange : PartView → Fault → Type 0
-WrongRange = First (Unless (IsTagged sequence_tag) 1 (Within WrongSpan (λ text. (span : SpanView) × IsSpanOf text span) (Behind LeftOver)))
+WrongRange = First (Unless (IsTagged sequence_tag) 1
+    (Within WrongSpan (λ text. (span : SpanView) × IsSpanOf text span) (Behind LeftOver)))
 
 -- an element of this tag, by its content; or of another
 abbrev pub ByTag : ℕ → (PartView → Fault → Type 0) → (ItemView → Fault → Type 0) → ItemView → Fault → Type 0
@@ -74,20 +78,22 @@ WrongEntry =
     ByTag code_tag (WrongString IsCode 3) (ByTag range_tag WrongRange (ByTag single_tag (WrongString IsNumber 4)
     (λ item fault. fault ≡ at_kind 1 item.place)))
 
--- entries in order, with room for so many: bytes are left and there is room for none; or the first entry is wrong; or it is an entry and those
--- after it are wrong, with room for one less
+-- entries in order, with room for so many: bytes are left and there is room for none; or the first entry is wrong; or
+-- it is an entry and those after it are wrong, with room for one less
 unfoldable pub WrongEntries : ℕ → PartView → Fault → Type 0
 WrongEntries zero part fault = (1 ≤ length part.left) × (fault ≡ at_kind 6 part.place)
-WrongEntries (suc room) part fault =
-    (1 ≤ length part.left) × First (λ item fault. WrongEntry item fault ⊎ (((entry : Entry) × IsItemOf item entry) × WrongEntries room item.behind fault)) part fault
+WrongEntries (suc room) part fault = (1 ≤ length part.left) × First (λ item fault. WrongEntry item fault
+    ⊎ (((entry : Entry) × IsItemOf item entry) × WrongEntries room item.behind fault)) part fault
 
 -- in the SEQUENCE of a list: 1 to 1,000 entries
 abbrev pub WrongContent : PartView → Fault → Type 0
-WrongContent part fault = ((part.left ≡ []) × (fault ≡ at_kind 2 0)) ⊎ ((1 ≤ length part.left) × WrongEntries 1000 part fault)
+WrongContent part fault =
+    ((part.left ≡ []) × (fault ≡ at_kind 2 0)) ⊎ ((1 ≤ length part.left) × WrongEntries 1000 part fault)
 
 -- the bytes are no list, which is one SEQUENCE and nothing after it, and this is their first fault
 abbrev pub Refused : List ℕ → Fault → Type 0
-Refused bytes = First (Unless (IsTagged sequence_tag) 1 (Within WrongContent (λ text. (entries : List Entry) × IsContentOf text entries) (Behind LeftOver))) (whole_text bytes)
+Refused bytes = First (Unless (IsTagged sequence_tag) 1 (Within WrongContent
+    (λ text. (entries : List Entry) × IsContentOf text entries) (Behind LeftOver))) (whole_text bytes)
 
 -- an answer other than a list and `Memory` is the first fault of the bytes
 abbrev pub IsRefused : {A : Type 0} → List ℕ → Result A ListFault → Type 0

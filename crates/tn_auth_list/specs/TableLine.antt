@@ -1,4 +1,5 @@
--- A line of the code table as it is written (this project's own rule): what `row_of` reads of it, in the words of the format.
+-- A line of the code table as it is written (this project's own rule): what `row_of` reads of it, in the words of the
+-- format.
 use Rattle.std.specs.Prelude.{◌≡◌, ⊤, true, ℕ, ◌^◌, ◌<◌, ◌≤◌, List, [], ◌∷◌, length, codes}
 use Rattle.std.specs.Fmt.{decimal}
 use Rattle.std.specs.List.{join_with_byte}

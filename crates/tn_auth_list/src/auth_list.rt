@@ -19,8 +19,8 @@ use std::marker::Model;
 
 /// Which telephone numbers a certificate's holder may speak for: `TNAuthorizationList` of RFC 8226, section 9.
 ///
-/// It has 1 to 1,000 entries, and none of them is a range of a single number. That is this project's own rule. A contract
-/// sees the list of the entries.
+/// It has 1 to 1,000 entries, and none of them is a range of a single number. That is this project's own rule. A
+/// contract sees the list of the entries.
 #[derive(Debug, Drop)]
 pub struct AuthList {
     entries: Vec<Entry>,
@@ -41,10 +41,10 @@ impl Model for AuthList {
 impl AuthList {
     /// The list that the bytes are, in DER.
     ///
-    /// The list is one SEQUENCE and nothing after it. An entry is an element with the tag `A0`, `A1` or `A2`: a code has
-    /// an IA5String in it, a range a SEQUENCE of an IA5String and an INTEGER, and a number an IA5String. Faults are found
-    /// in the order in which the elements are read, and the first is the answer: `ListFault` says which there are, and
-    /// where each is.
+    /// The list is one SEQUENCE and nothing after it. An entry is an element with the tag `A0`, `A1` or `A2`: a code
+    /// has an IA5String in it, a range a SEQUENCE of an IA5String and an INTEGER, and a number an IA5String. Faults are
+    /// found in the order in which the elements are read, and the first is the answer: `ListFault` says which there
+    /// are, and where each is.
     #[tactic(auto, using(crate::proofs::ListLaws::read_is_list, crate::proofs::ListLaws::answer_again, crate::proofs::ListLaws::one_list, crate::proofs::ListLaws::answer_refused, crate::proofs::ListLaws::answer_is_refused, crate::proofs::ListLaws::empty_refused, crate::proofs::ListLaws::left_over_refused, crate::proofs::ListLaws::past_limit_refused))]
     pub fn read(alloc: Global, bytes: &[u8]) -> Result<AuthList, ListFault>
         // The entries, or the first fault.
@@ -102,7 +102,8 @@ impl AuthList {
         ensures reads_back { IfOk result (λ text. read_list text.items ≡ Ok self.now) }
 
         // Bytes from which this list is read are what it writes.
-        ensures only { IfOk result (λ text. (bytes : List ℕ) → AllBytes bytes → read_list bytes ≡ Ok self.now → text.items ≡ bytes) }
+        ensures only { IfOk result (λ text. (bytes : List ℕ) → AllBytes bytes → read_list bytes ≡ Ok self.now
+            → text.items ≡ bytes) }
     {
         let text = list_text(*self.entries.allocator(), &self.entries)?;
         Ok(text)

@@ -11,7 +11,8 @@ use std::cmp::Ordering;
 use std::marker::Model;
 use std::{fmt, str};
 
-/// A service provider code: 1 to 32 bytes of visible ASCII, 0x21 to 0x7E (`ServiceProviderCode` of RFC 8226, section 9).
+/// A service provider code: 1 to 32 bytes of visible ASCII, 0x21 to 0x7E (`ServiceProviderCode` of RFC 8226, section
+/// 9).
 ///
 /// That a code is no longer than 32 bytes and has no blank is this project's own rule. A contract sees the code as the
 /// list of its bytes, and equality, order, hash and `{}` are those of this list: `12` comes before `123`, and `123`

@@ -29,7 +29,8 @@ impl ListFault {
     pub const EMPTY: u8 = 2;
     /// The IA5String at the place isn't a code: 1 to 32 bytes from 0x21 to 0x7E.
     pub const CODE: u8 = 3;
-    /// The IA5String at the place isn't a number, 1 to 15 bytes of `0-9 * #`, or as a range's start not of digits alone.
+    /// The IA5String at the place isn't a number, 1 to 15 bytes of `0-9 * #`, or as a range's start not of digits
+    /// alone.
     pub const NUMBER: u8 = 4;
     /// The INTEGER at the place isn't the count of a range: from 2 to 2^64 - 1, in its fewest bytes.
     pub const COUNT: u8 = 5;

@@ -11,6 +11,8 @@ ghost use Rattle.tn_auth_list.specs.declared.entries.Entry.{Entry};
 /// exactly if it is their first.
 pub fn list_law()
     ensures again { (bytes : List ℕ) (entries : List Entry) → ListText bytes entries → read_list bytes ≡ Ok entries }
-    ensures found { (bytes : List ℕ) (entries : List Entry) → AllBytes bytes → read_list bytes ≡ Ok entries → ListText bytes entries }
-    ensures refused { (bytes : List ℕ) (fault : Fault) → AllBytes bytes → (read_list bytes ≡ Err fault) ↔ Refused bytes fault }
+    ensures found { (bytes : List ℕ) (entries : List Entry) → AllBytes bytes → read_list bytes ≡ Ok entries
+        → ListText bytes entries }
+    ensures refused { (bytes : List ℕ) (fault : Fault) → AllBytes bytes
+        → (read_list bytes ≡ Err fault) ↔ Refused bytes fault }
 {}

@@ -2,11 +2,11 @@
 //!
 //! # The way through
 //!
-//! - [`AuthList::read`] takes the DER of a list, which is 1 to 1,000 entries. [`AuthList::build`] makes one of entries, and [`AuthList::write`]
-//!   gives its one DER text.
+//! - [`AuthList::read`] takes the DER of a list, which is 1 to 1,000 entries. [`AuthList::build`] makes one of entries,
+//!   and [`AuthList::write`] gives its one DER text.
 //! - An [`Entry`] is a [`Code`] (a service provider code), a range of numbers or a number.
-//! - [`CodeTable::read`] takes the code table, a text file (this project's own format), and [`CodeTable::numbers`] answers a [`Grant`]: what a code
-//!   stands for.
+//! - [`CodeTable::read`] takes the code table, a text file (this project's own format), and [`CodeTable::numbers`]
+//!   answers a [`Grant`]: what a code stands for.
 //!
 //! ```rust
 //! let list = AuthList::read(alloc, bytes)?;                 // ListFault has the kind of the fault and its offset
@@ -19,13 +19,14 @@
 //!
 //! # What it isn't
 //!
-//! Whether a list covers a number, and lies within another list, is asked in `delegation`. Where the list is in a certificate is the work of
-//! `x509_profile`. A code says nothing of numbers by itself: only the code table does.
+//! Whether a list covers a number, and lies within another list, is asked in `delegation`. Where the list is in a
+//! certificate is the work of `x509_profile`. A code says nothing of numbers by itself: only the code table does.
 //!
 //! # What is proved
 //!
-//! A list is read just if the bytes are its one DER text, and the first fault is said in the grammar's words, both ways ([`list_law`]). A table is
-//! exactly what its lines say, or its first bad line is named. `docs/dev/PROVED.md`, "Certificates", has the clauses.
+//! A list is read just if the bytes are its one DER text, and the first fault is said in the grammar's words, both ways
+//! ([`list_law`]). A table is exactly what its lines say, or its first bad line is named. `docs/dev/PROVED.md`,
+//! "Certificates", has the clauses.
 //!
 //! # Cases
 //!

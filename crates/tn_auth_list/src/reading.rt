@@ -1,7 +1,8 @@
 //! From the bytes of a list to its entries.
 ghost use Rattle.std.specs.Prelude.{◌≡◌, ◌≤◌, length, ◌⊎◌, IfOk, IfErr};
 ghost use Rattle.tn_auth_list.specs.Fault.{GivesSeen, IsPlaceBelow};
-ghost use Rattle.tn_auth_list.specs.Read.{code_in, single_in, start_of, counted, span_in, range_in, entry_in, content_entries, read_list};
+ghost use Rattle.tn_auth_list.specs.Read.{code_in, single_in, start_of, counted, span_in, range_in, entry_in};
+ghost use Rattle.tn_auth_list.specs.Read.{content_entries, read_list};
 ghost use Rattle.der_reader.specs.Elem.{AllBytes};
 ghost use Rattle.der_reader.specs.Part.{part_of, item_of, end_of, content_end};
 ghost use Rattle.tn_values.specs.Digit.{are_digits};

@@ -77,10 +77,10 @@ pub enum Grant<'a> {
 impl CodeTable {
     /// Reads a code table.
     ///
-    /// Each line is `CODE *`, `CODE NUMBER` or `CODE START COUNT`, its words parted by exactly one space; empty lines and
-    /// lines that begin with `;` are passed over and counted. Lines of one code add up. A table has at most 20,000 codes,
-    /// and at most 200,000 lines that give a number or a range. The fault names the first line that is none of these or
-    /// that passes a limit.
+    /// Each line is `CODE *`, `CODE NUMBER` or `CODE START COUNT`, its words parted by exactly one space; empty lines
+    /// and lines that begin with `;` are passed over and counted. Lines of one code add up. A table has at most 20,000
+    /// codes, and at most 200,000 lines that give a number or a range. The fault names the first line that is none of
+    /// these or that passes a limit.
     pub fn read(alloc: Global, text: &[u8]) -> Result<CodeTable, TableFault>
         requires { length text.now < 4294967295 }
         ensures table { IfOk result (TableOf text.now) }
@@ -98,7 +98,8 @@ impl CodeTable {
     /// What the table grants the code.
     pub fn numbers(&self, code: &Code) -> Grant<'_>
         ensures exact { grant_view result ≡ grant_in self.now code.now }
-        ensures rows { (text : List ℕ) (table : TableOf text self.now) → GrantOf table.rows code.now (grant_view result) }
+        ensures rows { (text : List ℕ) (table : TableOf text self.now)
+            → GrantOf table.rows code.now (grant_view result) }
     {
         self.grant(code)
     }

@@ -1,6 +1,7 @@
 //! What each code is given, as it is kept while the table is read.
 ghost use Rattle.std.specs.Prelude.{◌≡◌, [], Some, IfOk, OnOk};
-ghost use Rattle.tn_auth_list.specs.CodeGroups.{HeldByCode, HeldFrom, IsGroups, PutsRow, has_room, no_group, with_gives};
+ghost use Rattle.tn_auth_list.specs.CodeGroups.{HeldByCode, HeldFrom, IsGroups, PutsRow, has_room, no_group};
+ghost use Rattle.tn_auth_list.specs.CodeGroups.{with_gives};
 ghost use Rattle.tn_auth_list.specs.CodeTable.{add_row, is_past};
 ghost use Rattle.text_grammar.specs.Rows.{Adds, AddsLine};
 

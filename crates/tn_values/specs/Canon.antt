@@ -1,7 +1,8 @@
--- The canonical number that a text stands for, after RFC 8224, section 8.3: visual separators (RFC 3966, section 5.1.1) are dropped,
--- and a national number gets the country's digits. That space is a separator too, which texts are national, and that any other number
--- stays as it is, are this project's own rules.
-use Rattle.std.specs.Prelude.{◌≡◌, ℕ, Bool, true, not, ◌&&◌, ◌||◌, ◌==◌, List, [], ◌∷◌, ◌++◌, length, filter, Option, None, if◌then◌else◌}
+-- The canonical number that a text stands for, after RFC 8224, section 8.3: visual separators (RFC 3966, section 5.1.1)
+-- are dropped, and a national number gets the country's digits. That space is a separator too, which texts are
+-- national, and that any other number stays as it is, are this project's own rules.
+use Rattle.std.specs.Prelude.{◌≡◌, ℕ, Bool, true, not, ◌&&◌, ◌||◌, ◌==◌, List, [], ◌∷◌, ◌++◌, length, filter, Option}
+use Rattle.std.specs.Prelude.{None, if◌then◌else◌}
 use Rattle.std.specs.Option.{option_map}
 use Rattle.tn_values.specs.Digit.{are_digits}
 use Rattle.tn_values.specs.Number.{is_number, exact}
@@ -37,11 +38,11 @@ number_of_kept (first ∷ rest) local =
 unfoldable pub Canon : List ℕ → LocalView → Option (List ℕ)
 Canon text local = number_of_kept (without_separators text) local
 
--- the three ways in which a text stands for a number: after a `+`; as it is, unless it is as many digits as a national number has; and
--- those digits with the country's before them
+-- the three ways in which a text stands for a number: after a `+`; as it is, unless it is as many digits as a national
+-- number has; and those digits with the country's before them
 pub data StandsFor (text : List ℕ) (local : LocalView) (number : List ℕ) : Type 0 where
   international : is_number number ≡ true → without_separators text ≡ plus ∷ number → StandsFor text local number
-  plain : is_number number ≡ true → without_separators text ≡ number → (are_digits number ≡ true → length number ≡ local.national → ⊥)
-      → StandsFor text local number
+  plain : is_number number ≡ true → without_separators text ≡ number
+      → (are_digits number ≡ true → length number ≡ local.national → ⊥) → StandsFor text local number
   national : (digits : List ℕ) → is_number digits ≡ true → without_separators text ≡ digits → are_digits digits ≡ true
       → length digits ≡ local.national → number ≡ local.country ++ digits → StandsFor text local number

@@ -1,5 +1,5 @@
--- Every telephone number, as a list: a number has at most 15 bytes, so there are finitely many. With it a definition that speaks of
--- every number is still a test. Nothing computes the list.
+-- Every telephone number, as a list: a number has at most 15 bytes, so there are finitely many. With it a definition
+-- that speaks of every number is still a test. Nothing computes the list.
 use Rattle.std.specs.Prelude.{ℕ, zero, suc, List, [], ◌∷◌, ◌++◌, map}
 use Rattle.std.specs.List.{flat_map}
 

@@ -1,4 +1,5 @@
--- The local numbering: which texts are numbers of the own country, and what comes before those. This project's own rule.
+-- The local numbering: which texts are numbers of the own country, and what comes before those. This project's own
+-- rule.
 use Rattle.std.specs.Prelude.{ℕ, Bool, ◌&&◌, ◌+◌, nat_le, List, length, Option, Some, None, if◌then◌else◌}
 use Rattle.tn_values.specs.Digit.{are_digits}
 
@@ -15,4 +16,5 @@ is_local country national =
 
 -- the local numbering with these parts, if there is one
 abbrev pub local_of : List ℕ → ℕ → Option LocalView
-local_of country national = if is_local country national then Some (record { country = country; national = national }) else None
+local_of country national =
+    if is_local country national then Some (record { country = country; national = national }) else None

@@ -1,5 +1,7 @@
--- How a set keeps its numbers: spans in order, of which none touches the next, and the other numbers in order. This project's own rule.
-use Rattle.std.specs.Prelude.{◌≡◌, ℕ, suc, ◌+◌, ◌-◌, ◌^◌, ◌≤◌, true, false, nat_le, max, List, [], ◌∷◌, length, if◌then◌else◌}
+-- How a set keeps its numbers: spans in order, of which none touches the next, and the other numbers in order. This
+-- project's own rule.
+use Rattle.std.specs.Prelude.{◌≡◌, ℕ, suc, ◌+◌, ◌-◌, ◌^◌, ◌≤◌, true, false, nat_le, max, List, [], ◌∷◌, length}
+use Rattle.std.specs.Prelude.{if◌then◌else◌}
 use Rattle.std.specs.Cmp.Lexicographic.{slice_cmp}
 use Rattle.std.specs.List.{All}
 use Rattle.std.specs.List.Sorted.{IsStrictlySortedBy}
@@ -35,7 +37,8 @@ abbrev pub AreApart : ℕ → List SpanView → Type 0
 AreApart from [] = Unit {0}
 AreApart from (span ∷ spans) = (from ≤ rank_of span.start) × IsWhole span × AreApart (suc (rank_behind span)) spans
 
--- a set as it is kept: spans apart from each other, and numbers that aren't of digits alone, sorted by their bytes, each once
+-- a set as it is kept: spans apart from each other, and numbers that aren't of digits alone, sorted by their bytes,
+-- each once
 pub record IsMerged (set : SetView) : Type 0 where
   pub apart : AreApart 0 set.spans
   pub others : All (λ number. are_digits number ≡ false) set.singles
@@ -49,7 +52,8 @@ clipped span = record { start = span.start; size = rank_behind span - rank_of sp
 
 -- the span, made so large that it reaches the end of the other
 abbrev pub joined : SpanView → SpanView → SpanView
-joined span other = record { start = span.start; size = max (rank_behind span) (rank_behind other) - rank_of span.start }
+joined span other =
+    record { start = span.start; size = max (rank_behind span) (rank_behind other) - rank_of span.start }
 
 -- what a span and those after it, in order, come to if each that touches the one before it is joined to it
 abbrev pub merged_from : SpanView → List SpanView → List SpanView

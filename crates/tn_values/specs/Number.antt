@@ -1,4 +1,5 @@
--- Telephone numbers: `TelephoneNumber` of RFC 8226, section 9, which is also the canonical form of RFC 8224, section 8.3.
+-- Telephone numbers: `TelephoneNumber` of RFC 8226, section 9, which is also the canonical form of RFC 8224, section
+-- 8.3.
 use Rattle.std.specs.Prelude.{ℕ, Bool, ◌&&◌, ◌||◌, ◌==◌, nat_le, List, length, Option, Some, None, if◌then◌else◌}
 use Rattle.std.specs.List.{list_all}
 use Rattle.tn_values.specs.Digit.{is_digit}

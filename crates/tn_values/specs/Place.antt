@@ -1,5 +1,6 @@
 -- The place of a number of digits alone, and which entries of a set hold a number.
-use Rattle.std.specs.Prelude.{ℕ, Bool, false, ◌&&◌, ◌||◌, ◌==◌, nat_le, nat_lt, List, length, Option, Some, None, if◌then◌else◌}
+use Rattle.std.specs.Prelude.{ℕ, Bool, false, ◌&&◌, ◌||◌, ◌==◌, nat_le, nat_lt, List, length, Option, Some, None}
+use Rattle.std.specs.Prelude.{if◌then◌else◌}
 use Rattle.std.specs.List.{list_any}
 use Rattle.std.specs.Str.{bytes_eq}
 use Rattle.tn_values.specs.Digit.{are_digits}
@@ -16,7 +17,8 @@ place_of number = if are_digits number then Some (place_in number) else None
 
 -- the number at the place is one of the span
 abbrev pub covers : SpanView → Place → Bool
-covers span place = length span.start == place.digits && nat_le (value_of span.start) place.value && nat_lt place.value (end_of span)
+covers span place =
+    length span.start == place.digits && nat_le (value_of span.start) place.value && nat_lt place.value (end_of span)
 
 -- the set has the number: digits are looked for among the spans too
 abbrev pub spans_have : List SpanView → List ℕ → Bool

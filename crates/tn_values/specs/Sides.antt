@@ -17,7 +17,8 @@ abbrev pub rank_in : List ℕ → Option ℕ
 rank_in number = if are_digits number then Some (rank_of number) else None
 
 abbrev pub side_by_rank : SpanView → ℕ → Side
-side_by_rank span rank = if nat_lt rank (rank_of span.start) then Before else if nat_lt rank (rank_behind span) then Within else After
+side_by_rank span rank = if nat_lt rank (rank_of span.start) then Before
+    else if nat_lt rank (rank_behind span) then Within else After
 
 -- a number that isn't of digits alone comes after every span
 abbrev pub side_of_span : List ℕ → SpanView → Side
@@ -40,12 +41,14 @@ sides set number = map (side_of_span number) set.spans ++ map (side_of_single nu
 -- the place of an entry that holds the number; or there is none, and the set doesn't hold it
 abbrev pub IsEntryOf : SetView → List ℕ → Option ℕ → Type 0
 IsEntryOf set number None = SetHolds set number → ⊥
-IsEntryOf set number (Some place) = (place < length (sides set number)) × (slice_index_or (sides set number) place Before ≡ Within)
+IsEntryOf set number (Some place) =
+    (place < length (sides set number)) × (slice_index_or (sides set number) place Before ≡ Within)
 
 -- the place of a side `Within` in a part of the sides; or none of that part is one
 abbrev pub IsFoundIn : List Side → ℕ → ℕ → Option ℕ → Type 0
 IsFoundIn all first behind None = (k : ℕ) → first ≤ k → k < behind → slice_index_or all k Before ≡ Within → ⊥
-IsFoundIn all first behind (Some place) = (first ≤ place) × (place < behind) × (slice_index_or all place Before ≡ Within)
+IsFoundIn all first behind (Some place) =
+    (first ≤ place) × (place < behind) × (slice_index_or all place Before ≡ Within)
 
 -- the place of a span that holds the number
 pub record IsPlaceOf (set : SetView) (number : List ℕ) (place : ℕ) : Type 0 where

@@ -1,6 +1,8 @@
--- Ranges of telephone numbers, `TelephoneNumberRange` of RFC 8226, section 9: a first number of digits, and how many follow from it on.
--- That a range ends at the last number of its start's length, if its count passes that, is this project's own rule.
-use Rattle.std.specs.Prelude.{◌≡◌, ℕ, ◌+◌, ◌^◌, ◌<◌, ◌≤◌, Bool, true, ◌&&◌, nat_le, min, List, length, Option, Some, None, if◌then◌else◌}
+-- Ranges of telephone numbers, `TelephoneNumberRange` of RFC 8226, section 9: a first number of digits, and how many
+-- follow from it on. That a range ends at the last number of its start's length, if its count passes that, is this
+-- project's own rule.
+use Rattle.std.specs.Prelude.{◌≡◌, ℕ, ◌+◌, ◌^◌, ◌<◌, ◌≤◌, Bool, true, ◌&&◌, nat_le, min, List, length, Option, Some}
+use Rattle.std.specs.Prelude.{None, if◌then◌else◌}
 use Rattle.std.specs.Str.Parse.{digits_value}
 use Rattle.tn_values.specs.Digit.{are_digits}
 

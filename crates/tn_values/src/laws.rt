@@ -10,8 +10,10 @@ ghost use Rattle.tn_values.specs.Place.{set_has};
 
 /// A text has a number exactly if it stands for this number, in one of three ways (RFC 8224, section 8.3).
 pub fn number_law()
-    ensures found { (text : List ℕ) (local : LocalView) (number : List ℕ) → Canon text local ≡ Some number → StandsFor text local number }
-    ensures only { (text : List ℕ) (local : LocalView) (number : List ℕ) → StandsFor text local number → Canon text local ≡ Some number }
+    ensures found { (text : List ℕ) (local : LocalView) (number : List ℕ) → Canon text local ≡ Some number
+        → StandsFor text local number }
+    ensures only { (text : List ℕ) (local : LocalView) (number : List ℕ) → StandsFor text local number
+        → Canon text local ≡ Some number }
 {}
 
 /// The test of spans and single numbers decides which numbers they hold (RFC 8226, section 9).
@@ -22,6 +24,8 @@ pub fn set_law()
 
 /// A test passes each of the list of all telephone numbers (RFC 8226, section 9) exactly if it passes every number.
 pub fn every_number_law()
-    ensures each { (test : List ℕ → Bool) → list_all test every_number ≡ true → (number : List ℕ) → is_number number ≡ true → test number ≡ true }
-    ensures every { (test : List ℕ → Bool) → ((number : List ℕ) → is_number number ≡ true → test number ≡ true) → list_all test every_number ≡ true }
+    ensures each { (test : List ℕ → Bool) → list_all test every_number ≡ true → (number : List ℕ)
+        → is_number number ≡ true → test number ≡ true }
+    ensures every { (test : List ℕ → Bool) → ((number : List ℕ) → is_number number ≡ true → test number ≡ true)
+        → list_all test every_number ≡ true }
 {}

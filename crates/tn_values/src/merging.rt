@@ -122,7 +122,8 @@ pub(crate) fn merged(alloc: Global, spans: &[Ranked]) -> Result<Vec<Span>, Memor
 pub(crate) fn others(numbers: Vec<Number>) -> Vec<Number>
     ensures others { All (λ number. are_digits number ≡ false) result.items }
     ensures order { IsStrictlySortedBy (slice_cmp nat_cmp) result.items }
-    ensures same { (number : List ℕ) → Contains result.items number ↔ Contains (filter (λ number. not (are_digits number)) numbers.items) number }
+    ensures same { (number : List ℕ)
+        → Contains result.items number ↔ Contains (filter (λ number. not (are_digits number)) numbers.items) number }
     ensures few { length result.items ≤ length (filter (λ number. not (are_digits number)) numbers.items) }
 {
     let mut numbers = numbers;

@@ -31,7 +31,8 @@ impl Model for Local {
 impl Local {
     /// The local numbering of a country with the digits `country`, whose national numbers have `national` digits.
     ///
-    /// None if `country` isn't 1 to 3 digits, `national` isn't 1 to 14, or their lengths together exceed the 15 of a number.
+    /// None if `country` isn't 1 to 3 digits, `national` isn't 1 to 14, or their lengths together exceed the 15 of a
+    /// number.
     pub fn new(country: &[u8], national: u8) -> Option<Local>
         ensures { result ≡ local_of country.now national }
     {

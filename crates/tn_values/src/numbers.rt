@@ -14,8 +14,8 @@ use std::{fmt, str};
 
 /// A telephone number: 1 to 15 bytes of `0-9 * #` (`TelephoneNumber` of RFC 8226, section 9).
 ///
-/// A contract sees it as the list of its bytes, and equality, order, hash and `{}` are those of this list: `12` comes before
-/// `123`, and `123` before `13`.
+/// A contract sees it as the list of its bytes, and equality, order, hash and `{}` are those of this list: `12` comes
+/// before `123`, and `123` before `13`.
 #[derive(Clone, Copy, PartialEq, Eq, PartialOrd, Ord, Hash)]
 pub struct Number {
     text: ShortText<15>,
@@ -50,20 +50,23 @@ impl Number {
 
     /// The canonical number that `text` stands for, or None if there is none.
     ///
-    /// The bytes `(`, `)`, `-`, `.` and space are dropped. After a leading `+` the text is international and stays as it is.
-    /// Otherwise a text of digits alone that is as long as a national number of `local` gets the country's digits before it,
-    /// and any other stays as it is. What is left has to be a number: 1 to 15 bytes of `0-9 * #`.
+    /// The bytes `(`, `)`, `-`, `.` and space are dropped. After a leading `+` the text is international and stays as
+    /// it is. Otherwise a text of digits alone that is as long as a national number of `local` gets the country's
+    /// digits before it, and any other stays as it is. What is left has to be a number: 1 to 15 bytes of `0-9 * #`.
     ///
-    /// Texts that differ in the dropped bytes alone are read alike. Every number is read from its bytes after a `+`. It is
-    /// also read from its bytes alone, unless they are digits and as many as a national number of `local` has.
+    /// Texts that differ in the dropped bytes alone are read alike. Every number is read from its bytes after a `+`. It
+    /// is also read from its bytes alone, unless they are digits and as many as a national number of `local` has.
     pub fn read(text: &[u8], local: &Local) -> Option<Number>
         ensures canonical { result ≡ Canon text.now local.now }
         ensures number { IfSome result (λ number. IsTrue (is_number number)) }
         ensures ways { IfSome result (λ number. StandsFor text.now local.now number) }
         ensures only { (number : List ℕ) → StandsFor text.now local.now number → result ≡ Some number }
-        ensures separators { (other : List ℕ) → without_separators other ≡ without_separators text.now → Canon other local.now ≡ result }
-        ensures international { (number : List ℕ) → is_number number ≡ true → text.now ≡ plus ∷ number → result ≡ Some number }
-        ensures plain { is_number text.now ≡ true → (are_digits text.now ≡ true → length text.now ≡ local.now.national → ⊥) → result ≡ Some text.now }
+        ensures separators { (other : List ℕ) → without_separators other ≡ without_separators text.now
+            → Canon other local.now ≡ result }
+        ensures international { (number : List ℕ) → is_number number ≡ true → text.now ≡ plus ∷ number
+            → result ≡ Some number }
+        ensures plain { is_number text.now ≡ true
+            → (are_digits text.now ≡ true → length text.now ≡ local.now.national → ⊥) → result ≡ Some text.now }
     {
         canonical(text, local)
     }

@@ -1,7 +1,9 @@
 //! Sets of numbers.
-ghost use Rattle.std.specs.Prelude.{◌≡◌, ℕ, ◌+◌, ◌<◌, ◌≤◌, ◌↔◌, false, List, [], Contains, length, IsTrue, IfOk, MatchOption};
+ghost use Rattle.std.specs.Prelude.{◌≡◌, ℕ, ◌+◌, ◌<◌, ◌≤◌, ◌↔◌, false, List, [], Contains, length, IsTrue, IfOk};
+ghost use Rattle.std.specs.Prelude.{MatchOption};
 ghost use Rattle.tn_values.specs.Number.{is_number};
-ghost use Rattle.tn_values.specs.NumberSet.{Gap, IsWithin, OneSpanHolds, Outside, SetHolds, SetView, part_count, set_of};
+ghost use Rattle.tn_values.specs.NumberSet.{Gap, IsWithin, OneSpanHolds, Outside, SetHolds, SetView, part_count};
+ghost use Rattle.tn_values.specs.NumberSet.{set_of};
 ghost use Rattle.tn_values.specs.Sides.{IsPlaceOf};
 ghost use Rattle.tn_values.specs.Span.{SpanHolds, SpanView, is_span};
 ghost use Rattle.tn_values.specs.Steps.{Spent};
@@ -34,10 +36,11 @@ impl Model for NumberSet {
 impl NumberSet {
     /// The set of all numbers of the spans and all `others`.
     ///
-    /// Spans of one length that overlap or touch become one, and so does a number of digits alone with them. `Memory` comes
-    /// if there is no memory for the merged spans.
+    /// Spans of one length that overlap or touch become one, and so does a number of digits alone with them. `Memory`
+    /// comes if there is no memory for the merged spans.
     pub fn build(spans: Vec<Span>, others: Vec<Number>) -> Result<NumberSet, Memory>
-        ensures holds { IfOk result (λ set. (n : List ℕ) → SetHolds set n ↔ SetHolds (set_of spans.items others.items) n) }
+        ensures holds { IfOk result
+            (λ set. (n : List ℕ) → SetHolds set n ↔ SetHolds (set_of spans.items others.items) n) }
         ensures few { IfOk result (λ set. part_count set ≤ length spans.items + length others.items) }
     {
         Ok(NumberSet {
@@ -78,8 +81,8 @@ impl NumberSet {
         self.has_from::<Brand>(number, Blank::new(1))
     }
 
-    /// The same, and the steps that it takes, each a look at one span or one single. For s steps, 2^s is at most one more
-    /// than twice [`NumberSet::parts`].
+    /// The same, and the steps that it takes, each a look at one span or one single. For s steps, 2^s is at most one
+    /// more than twice [`NumberSet::parts`].
     pub fn has_counted<L: Ledger>(&self, number: &Number, steps: &mut Steps<L>) -> bool
         ensures holds { IsTrue result ↔ SetHolds self.now number.now }
         ensures steps { Spent steps.old steps.new (part_count self.now) }
@@ -106,8 +109,10 @@ impl NumberSet {
         ensures all { IsTrue result → IsWithin self.now parent.now }
         ensures outside { result ≡ false → Outside self.now parent.now }
         // Two sets of the same numbers have the same spans and the same singles.
-        ensures same_spans { IsWithin self.now parent.now → IsWithin parent.now self.now → self.now.spans ≡ parent.now.spans }
-        ensures same_singles { IsWithin self.now parent.now → IsWithin parent.now self.now → self.now.singles ≡ parent.now.singles }
+        ensures same_spans { IsWithin self.now parent.now → IsWithin parent.now self.now
+            → self.now.spans ≡ parent.now.spans }
+        ensures same_singles { IsWithin self.now parent.now → IsWithin parent.now self.now
+            → self.now.singles ≡ parent.now.singles }
     {
         self.entries.is_merged();
         parent.entries.is_merged();
@@ -140,8 +145,8 @@ impl NumberSet {
         true
     }
 
-    /// Whether the set has every number of the span: the one of its spans that holds the first number has them all, or the
-    /// number after that span is missing.
+    /// Whether the set has every number of the span: the one of its spans that holds the first number has them all, or
+    /// the number after that span is missing.
     fn has_span(&self, span: &Span) -> bool
         ensures all { IsTrue result → (n : List ℕ) → SpanHolds span.now n → SetHolds self.now n }
         ensures gap { result ≡ false → Gap span.now self.now }
@@ -156,7 +161,8 @@ impl NumberSet {
 
     /// The one of the set's spans that holds the first number of another.
     fn span_with(&self, span: &Span) -> Option<Span>
-        ensures { MatchOption result (SetHolds self.now span.now.start → ⊥) (λ own. Contains self.now.spans own × SpanHolds own span.now.start) }
+        ensures { MatchOption result (SetHolds self.now span.now.start → ⊥)
+            (λ own. Contains self.now.spans own × SpanHolds own span.now.start) }
     {
         match self.place_with(span) {
             Some(place) => Some(self.entries.spans()[place]),
@@ -166,7 +172,8 @@ impl NumberSet {
 
     /// The place of the one of the set's spans that holds the first number of another.
     fn place_with(&self, span: &Span) -> Option<usize>
-        ensures { MatchOption result (SetHolds self.now span.now.start → ⊥) (λ place. IsPlaceOf self.now span.now.start place) }
+        ensures { MatchOption result (SetHolds self.now span.now.start → ⊥)
+            (λ place. IsPlaceOf self.now span.now.start place) }
     {
         entry_uncounted::<Brand>(&self.entries, &span.start(), Blank::new(1))
     }

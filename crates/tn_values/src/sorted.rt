@@ -29,9 +29,9 @@ pub enum Side {
 
 /// The entries of a set: spans, and after them the single numbers that aren't of digits alone.
 ///
-/// The spans are sorted by length and then by start. No two of one length overlap or touch, and none passes the last number
-/// of its length; a number of digits alone is a span of size 1. The singles are sorted by their bytes, and each comes once.
-/// A contract sees the spans and the singles as two lists.
+/// The spans are sorted by length and then by start. No two of one length overlap or touch, and none passes the last
+/// number of its length; a number of digits alone is a span of size 1. The singles are sorted by their bytes, and each
+/// comes once. A contract sees the spans and the singles as two lists.
 #[derive(Debug, Drop)]
 pub struct Sorted {
     spans: Vec<Span>,
@@ -52,7 +52,8 @@ impl Model for Sorted {
 impl Sorted {
     /// The entries for all numbers of the spans and all `numbers`.
     pub fn of(spans: Vec<Span>, numbers: Vec<Number>) -> Result<Sorted, Memory>
-        ensures holds { IfOk result (λ set. (n : List ℕ) → SetHolds set n ↔ SetHolds (set_of spans.items numbers.items) n) }
+        ensures holds { IfOk result (λ set. (n : List ℕ)
+            → SetHolds set n ↔ SetHolds (set_of spans.items numbers.items) n) }
         ensures few { IfOk result (λ set. part_count set ≤ length spans.items + length numbers.items) }
     {
         let alloc = *spans.allocator();

@@ -9,11 +9,12 @@ use crate::numbers::Number;
 use crate::places::{Place, numbers_of, value_of};
 use std::marker::Model;
 
-/// The numbers of digits alone that are as long as a first one and follow it, `TelephoneNumberRange` of RFC 8226, section 9.
+/// The numbers of digits alone that are as long as a first one and follow it, `TelephoneNumberRange` of RFC 8226,
+/// section 9.
 ///
-/// A span of size s holds the numbers of start's length from start to start + s - 1. If that end passes the last number of
-/// start's length, the span ends at that last number, and its size stays as given. A contract sees `start`, a list of bytes,
-/// and `size`, a number.
+/// A span of size s holds the numbers of start's length from start to start + s - 1. If that end passes the last number
+/// of start's length, the span ends at that last number, and its size stays as given. A contract sees `start`, a list
+/// of bytes, and `size`, a number.
 #[derive(Clone, Copy, Debug, PartialEq, Eq, Hash)]
 pub struct Span {
     start: Number,
@@ -62,8 +63,8 @@ impl Span {
         self.size
     }
 
-    /// Whether the number is one of the span: digits alone, as long as the first number, and no further after it than the
-    /// size allows.
+    /// Whether the number is one of the span: digits alone, as long as the first number, and no further after it than
+    /// the size allows.
     pub fn holds(&self, number: &Number) -> bool
         ensures { IsTrue result ↔ SpanHolds self.now number.now }
     {

@@ -16,8 +16,8 @@ use vector_table::{Answer, Unread, answers_of};
 use verify_rules::Screened;
 use verify_service::{Call, Outcome, Prepared, Service, Worker};
 
-/// Of a log that is one round: how many of its calls are valid, and how many are replays of the last valid one, if two threads judge them by one
-/// prepared round that is lent to both.
+/// Of a log that is one round: how many of its calls are valid, and how many are replays of the last valid one, if two
+/// threads judge them by one prepared round that is lent to both.
 pub(crate) fn lent<R: Threads + Sync>(
     rt: &R,
     alloc: Global,
@@ -32,7 +32,8 @@ pub(crate) fn lent<R: Threads + Sync>(
     put_counts(Answer::new(alloc), winner, lines.as_slice()).line()
 }
 
-/// What comes of the calls of a log, by a round that is lent to two threads, whose providers say what these answers hold.
+/// What comes of the calls of a log, by a round that is lent to two threads, whose providers say what these answers
+/// hold.
 fn judge_lent<R: Threads + Sync>(
     rt: &R,
     alloc: Global,
@@ -81,7 +82,8 @@ fn prepare<R: Threads + Sync>(
     requires some { 0 < length workers.old }
     requires few { length workers.old ≤ 8 }
     requires same { SaySame workers.old }
-    requires right { (d : _) → HoldsRight (Some shelf.old.files) (held_says (slice_index_or workers.old 0 d).provider.held) service.old }
+    requires right { (d : _)
+        → HoldsRight (Some shelf.old.files) (held_says (slice_index_or workers.old 0 d).provider.held) service.old }
     ensures newest { IfOk result (λ prepared. IsNewest service.new prepared) }
 {
     if !service.follows(calls) {
@@ -103,7 +105,8 @@ fn two_seats(prepared: &mut Prepared) -> Result<(Seat, Seat), Unread>
     Ok((seat, other))
 }
 
-/// What a thread judges with: the parity of the places whose calls are its own, which is its number too, its seat, and its provider.
+/// What a thread judges with: the parity of the places whose calls are its own, which is its number too, its seat, and
+/// its provider.
 #[derive(Drop)]
 struct Part<'a> {
     worker: u8,
@@ -152,14 +155,14 @@ fn judge_by_two<R: Threads + Sync>(
     Ok(lines)
 }
 
-/// A value of the type may be lent to several threads at once. The toolchain finds that of a type which holds itself, as a JSON value in a screened
-/// call does.
+/// A value of the type may be lent to several threads at once. The toolchain finds that of a type which holds itself,
+/// as a JSON value in a screened call does.
 fn may_be_shared<T: Sync>()
     ensures { IsSync T.row }
 {}
 
-/// What two threads give that share a service and a round, each with a part of its own. The bounds say of types unknown here that they may be shared
-/// and sent, so the threads' closures need no proof of that.
+/// What two threads give that share a service and a round, each with a part of its own. The bounds say of types unknown
+/// here that they may be shared and sent, so the threads' closures need no proof of that.
 fn in_two_threads<
     R: Threads + Sync,
     S: Sync,

@@ -94,7 +94,8 @@ fn judge_rounds<R: Threads + Sync, G: Gate + Send>(
     requires some { 0 < length workers.old }
     requires few { length workers.old ≤ 8 }
     requires same { SaySame workers.old }
-    requires right { (d : _) → HoldsRight (Some shelf.old.files) (held_says (slice_index_or workers.old 0 d).provider.held) service.old }
+    requires right { (d : _)
+        → HoldsRight (Some shelf.old.files) (held_says (slice_index_or workers.old 0 d).provider.held) service.old }
 {
     let mut source = SourceMem::new(log.to_vec(alloc)?, Vec::new(alloc));
     let mut reader = LogReader::new(alloc);
@@ -121,10 +122,12 @@ fn judge_round<R: Threads + Sync, G: Gate + Send>(
     requires some { 0 < length workers.old }
     requires few { length workers.old ≤ 8 }
     requires same { SaySame workers.old }
-    requires right { (d : _) → HoldsRight (Some shelf.old.files) (held_says (slice_index_or workers.old 0 d).provider.held) service.old }
+    requires right { (d : _)
+        → HoldsRight (Some shelf.old.files) (held_says (slice_index_or workers.old 0 d).provider.held) service.old }
     ensures counted { length workers.new ≡ length workers.old }
     ensures same { SaySame workers.new }
-    ensures right { (d : _) → HoldsRight (Some shelf.new.files) (held_says (slice_index_or workers.new 0 d).provider.held) service.new }
+    ensures right { (d : _)
+        → HoldsRight (Some shelf.new.files) (held_says (slice_index_or workers.new 0 d).provider.held) service.new }
 {
     if !service.follows(calls) {
         return Err(Unread::Value);
@@ -155,7 +158,8 @@ pub(crate) fn shelf_of(alloc: Global, failing: &[u8], world: &[&[u8]]) -> Result
     Ok(ShelfMem::new(files_of(alloc, files)?, failing))
 }
 
-/// A service by a chain map, anchors and a code table, for country 1, national numbers of ten digits, and PASSporTs that may be 60 seconds old and 5 ahead.
+/// A service by a chain map, anchors and a code table, for country 1, national numbers of ten digits, and PASSporTs
+/// that may be 60 seconds old and 5 ahead.
 pub(crate) fn service_of(alloc: Global, world: &[&[u8]]) -> Result<Service, Unread>
     ensures none_held { IfOk result (λ service. service.held.entries ≡ []) }
 {

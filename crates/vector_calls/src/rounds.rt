@@ -61,7 +61,8 @@ impl Gate for Notes {
     }
 }
 
-/// The workers that passed the gate, counted from 0, each with the number of the call, when one worker judged a log in rounds.
+/// The workers that passed the gate, counted from 0, each with the number of the call, when one worker judged a log in
+/// rounds.
 fn passed<R: Threads + Sync>(rt: &R, alloc: Global, words: &[&[u8]]) -> Result<String, Unread> {
     let [rounds, log, world @ ..] = words else {
         return Err(Unread::Call);

@@ -41,7 +41,8 @@ fn signed(alloc: Global, words: &[&[u8]]) -> Result<String, Unread> {
     put_signed(alloc, made, provider.asks())
 }
 
-/// What signing a message that goes to another number than before comes to, by the earlier number and the other words of a [`Row`].
+/// What signing a message that goes to another number than before comes to, by the earlier number and the other words
+/// of a [`Row`].
 fn diverted(alloc: Global, words: &[&[u8]]) -> Result<String, Unread> {
     let row = Row::of(alloc, words)?;
     let order = DivertOrder {
@@ -61,8 +62,8 @@ fn diverted(alloc: Global, words: &[&[u8]]) -> Result<String, Unread> {
     put_signed(alloc, made, provider.asks())
 }
 
-/// The words of a call that signs: the first, the key's name, the certificates' URI, the second, the local numbering, whom the signer asks, and the
-/// message.
+/// The words of a call that signs: the first, the key's name, the certificates' URI, the second, the local numbering,
+/// whom the signer asks, and the message.
 #[derive(Drop)]
 struct Row<'a> {
     first: &'a [u8],
@@ -75,7 +76,8 @@ struct Row<'a> {
 }
 
 impl<'a> Row<'a> {
-    /// The row that these words are: country and national length make the local numbering, and [`Asked::of`] takes the four words after them.
+    /// The row that these words are: country and national length make the local numbering, and [`Asked::of`] takes the
+    /// four words after them.
     fn of(alloc: Global, words: &[&'a [u8]]) -> Result<Row<'a>, Unread> {
         let [
             first,
@@ -115,7 +117,8 @@ struct Asked {
 }
 
 impl Asked {
-    /// That of these words: the holder's entries (`-` for no holder), the code table, the answers, and which calls of the provider fail.
+    /// That of these words: the holder's entries (`-` for no holder), the code table, the answers, and which calls of
+    /// the provider fail.
     fn of(
         alloc: Global,
         list: &[u8],

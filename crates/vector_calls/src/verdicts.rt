@@ -1,4 +1,5 @@
-//! Calls judged by the rules of the chains over the chains of their PASSporTs: `screen` and then `finish` of `verify_rules`.
+//! Calls judged by the rules of the chains over the chains of their PASSporTs: `screen` and then `finish` of
+//! `verify_rules`.
 ghost use Rattle.std.specs.Prelude.{◌≡◌};
 ghost use Rattle.verify_rules.specs.States.{seen};
 ghost use Rattle.vector_calls.specs.Known.{known_seen};
@@ -53,8 +54,8 @@ fn finish_answer(alloc: Global, words: &[&[u8]]) -> Result<String, Unread> {
         .line()
 }
 
-/// A call that breaks none of the rules of the call, with country 1, national numbers of ten digits, and PASSporTs that may be 60 seconds old and 5
-/// ahead.
+/// A call that breaks none of the rules of the call, with country 1, national numbers of ten digits, and PASSporTs that
+/// may be 60 seconds old and 5 ahead.
 fn screened(alloc: Global, message: &[u8], moment: u64) -> Result<Screened, Unread> {
     let local = local_of(b"1", b"10")?;
     let settings = Settings {
@@ -114,7 +115,8 @@ impl Chains for KnownChains {
     }
 }
 
-/// What calls are judged by: trust anchors, a code table, and x5us, each with its file or a word for what is known of this.
+/// What calls are judged by: trust anchors, a code table, and x5us, each with its file or a word for what is known of
+/// this.
 #[derive(Clone, Copy)]
 struct Case<'a> {
     anchors: &'a Anchors,

@@ -27,7 +27,8 @@ pub fn answer<R: Threads + Sync>(rt: &R, alloc: Global, asked: Asked<'_>) -> Ans
     }
 }
 
-/// The report of a log that is judged as one round on so many workers; these calls of each worker's provider and these reads of the shelf fail.
+/// The report of a log that is judged as one round on so many workers; these calls of each worker's provider and these
+/// reads of the shelf fail.
 fn report<R: Threads + Sync>(rt: &R, alloc: Global, words: &[&[u8]]) -> Result<String, Unread> {
     let [count, answers, questions, failing, log, world @ ..] = words else {
         return Err(Unread::Call);
@@ -42,8 +43,8 @@ fn report<R: Threads + Sync>(rt: &R, alloc: Global, words: &[&[u8]]) -> Result<S
     report_of(alloc, told.lines.as_slice())
 }
 
-/// Of a log that is judged as two rounds on so many workers, the last call in the second: how many calls are valid, and how many are replays of the
-/// last valid one of the first round, in each.
+/// Of a log that is judged as two rounds on so many workers, the last call in the second: how many calls are valid, and
+/// how many are replays of the last valid one of the first round, in each.
 fn once<R: Threads + Sync>(rt: &R, alloc: Global, words: &[&[u8]]) -> Result<String, Unread> {
     let [count, answers, log, world @ ..] = words else {
         return Err(Unread::Call);
@@ -78,7 +79,8 @@ fn put_both(answer: Answer, lines: &[Line]) -> Answer {
     put_counts(put_counts(answer, winner, first), winner, last)
 }
 
-/// What comes of a log on so many workers, whose providers say what these answers hold; these calls of each provider fail.
+/// What comes of a log on so many workers, whose providers say what these answers hold; these calls of each provider
+/// fail.
 pub(crate) fn judge_on<R: Threads + Sync>(
     rt: &R,
     alloc: Global,

@@ -95,8 +95,8 @@ impl Case<'_> {
         }
     }
 
-    /// Puts after other words the x5us that are held, in the order in which they leave as one more chain after another is put: the least
-    /// recently used first.
+    /// Puts after other words the x5us that are held, in the order in which they leave as one more chain after another
+    /// is put: the least recently used first.
     fn leaving(
         &mut self,
         answer: Answer,

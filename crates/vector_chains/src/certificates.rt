@@ -107,8 +107,8 @@ fn put_values(answer: Answer, certificate: &Certificate) -> Answer {
         .hex(certificate.signature().as_slice())
 }
 
-/// Puts after other words what the extensions of a certificate say: whether it is an authority, path length and usage, the two
-/// key identifiers, and the entries of its list. What it lacks is `-`.
+/// Puts after other words what the extensions of a certificate say: whether it is an authority, path length and usage,
+/// the two key identifiers, and the entries of its list. What it lacks is `-`.
 fn put_extensions(answer: Answer, certificate: &Certificate) -> Answer {
     let answer = answer
         .word(certificate.is_ca())

@@ -83,8 +83,8 @@ impl Case<'_> {
         judged(alloc, self.chain, self.anchors, self.table, provider)
     }
 
-    /// Where rules 11, 12 and 14 are broken, `-` if they aren't; how the signatures were answered for; how often the provider was asked.
-    /// Its listed calls fail.
+    /// Where rules 11, 12 and 14 are broken, `-` if they aren't; how the signatures were answered for; how often the
+    /// provider was asked. Its listed calls fail.
     fn said(self, alloc: Global, words: &[&[u8]]) -> Result<String, Unread> {
         let [failing] = words else {
             return Err(Unread::Call);

@@ -30,7 +30,8 @@ fn read(alloc: Global, words: &[&[u8]]) -> Result<String, Unread> {
     }
 }
 
-/// `ok`, how many claims must be there and their names, how many have permitted values, and of each its name, how many values, and these.
+/// `ok`, how many claims must be there and their names, how many have permitted values, and of each its name, how many
+/// values, and these.
 fn put_constraints(alloc: Global, constraints: &Constraints) -> Result<String, Unread> {
     let mut answer = Answer::new(alloc).word("ok").word(constraints.must_count());
     for index in 0..constraints.must_count() {

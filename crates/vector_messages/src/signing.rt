@@ -1,4 +1,5 @@
-//! What a signer puts together: a message with one more header field, `with_field` of `sip_message`, and what is signed of a PASSporT.
+//! What a signer puts together: a message with one more header field, `with_field` of `sip_message`, and what is signed
+//! of a PASSporT.
 
 use crate::claims::passport_of;
 use sip_message::{MessageFault, is_addable, is_field_value, with_field};

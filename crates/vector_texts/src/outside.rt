@@ -13,8 +13,8 @@ pub fn answer(alloc: Global, call: &str, words: &[&[u8]]) -> Result<String, Unre
     }
 }
 
-/// What is read of a source after other bytes, up to a limit for both, when the listed reads fail: `ok` or `fault`, the bytes, those that are
-/// left, and how many reads failed.
+/// What is read of a source after other bytes, up to a limit for both, when the listed reads fail: `ok` or `fault`, the
+/// bytes, those that are left, and how many reads failed.
 fn read(alloc: Global, words: &[&[u8]]) -> Result<String, Unread> {
     let [limit, failing, front, text] = words else {
         return Err(Unread::Call);
@@ -41,7 +41,8 @@ fn read(alloc: Global, words: &[&[u8]]) -> Result<String, Unread> {
         .line()
 }
 
-/// What is written of a text into a sink with so much room, when the listed writes fail: `ok` or `fault`, the bytes, and how many writes failed.
+/// What is written of a text into a sink with so much room, when the listed writes fail: `ok` or `fault`, the bytes,
+/// and how many writes failed.
 fn write(alloc: Global, words: &[&[u8]]) -> Result<String, Unread> {
     let [room, failing, text] = words else {
         return Err(Unread::Call);

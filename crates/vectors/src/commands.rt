@@ -89,7 +89,8 @@ fn put_settings(answer: Answer, settings: &Settings) -> Answer {
     )
 }
 
-/// Puts what is to be signed of a call after other words. This is the form, with the attestation and the identifier if it has them, and then by which key.
+/// Puts what is to be signed of a call after other words. This is the form, with the attestation and the identifier if
+/// it has them, and then by which key.
 fn put_signing(answer: Answer, signing: &Signing<'_>) -> Answer {
     put_signer(put_form(answer, &signing.form), &signing.signer)
 }
@@ -99,7 +100,8 @@ fn put_diverting(answer: Answer, diverting: &Diverting<'_>) -> Answer {
     put_signer(answer.word(diverting.earlier), &diverting.signer)
 }
 
-/// Puts the key, the URI, the second, the local numbering, and the files of the answers and of the holder after other words.
+/// Puts the key, the URI, the second, the local numbering, and the files of the answers and of the holder after other
+/// words.
 fn put_signer(answer: Answer, signer: &Signer<'_>) -> Answer {
     let answer = answer
         .text(signer.key.as_bytes())
@@ -109,7 +111,8 @@ fn put_signer(answer: Answer, signer: &Signer<'_>) -> Answer {
     put_holder(answer, &signer.holder)
 }
 
-/// Puts by what a call is judged after other words, then how its diversion is signed, where it goes on, the file of the certificate, and the moment.
+/// Puts by what a call is judged after other words, then how its diversion is signed, where it goes on, the file of the
+/// certificate, and the moment.
 fn put_retargeting(answer: Answer, words: &Retargeting<'_>) -> Answer {
     put_judging(answer, &words.judging)
         .text(words.key.as_bytes())

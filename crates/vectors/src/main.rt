@@ -5,12 +5,13 @@
 //! 12155551212                             in stdout
 //! ```
 //!
-//! `stdin` and `stdout` beside `src/` are the table and its answers; the gate runs the program and compares. The head of `stdin` says how a line is
-//! written, and CONTRIBUTING.md how a case is added. Expected values come from outside the program: worked by hand from a standard, or printed by a
-//! script of `crates/vectors/generators`.
+//! `stdin` and `stdout` beside `src/` are the table and its answers; the gate runs the program and compares. The head
+//! of `stdin` says how a line is written, and CONTRIBUTING.md how a case is added. Expected values come from outside
+//! the program: worked by hand from a standard, or printed by a script of `crates/vectors/generators`.
 //!
-//! The subjects are in `vector_texts`, `vector_chains`, `vector_messages` and `vector_calls`; those of words and named files are in `commands` here. Whole
-//! runs of `stir_cmd` are in `runs`, over memory forms, whose reads and writes fail at the calls that a line lists; `crates/vectors/generators/runs.py` prints them.
+//! The subjects are in `vector_texts`, `vector_chains`, `vector_messages` and `vector_calls`; those of words and named
+//! files are in `commands` here. Whole runs of `stir_cmd` are in `runs`, over memory forms, whose reads and writes fail
+//! at the calls that a line lists; `crates/vectors/generators/runs.py` prints them.
 #![tactic(auto)]
 
 mod commands;

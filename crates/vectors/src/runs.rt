@@ -1,7 +1,8 @@
-//! Runs of the program over files, a log and an output in memory, the log and the output a byte a call: `run` of `stir_cmd`.
+//! Runs of the program over files, a log and an output in memory, the log and the output a byte a call: `run` of
+//! `stir_cmd`.
 //!
-//! `runs.each_read`, `runs.each_write` and `runs.each_file` let the first call of that kind fail, the second, and so on, and answer how many runs came to
-//! the same end.
+//! `runs.each_read`, `runs.each_write` and `runs.each_file` let the first call of that kind fail, the second, and so
+//! on, and answer how many runs came to the same end.
 
 use std::alloc::Global;
 use std::thread::Threads;
@@ -21,7 +22,8 @@ pub fn answer<R: Threads + Sync>(rt: &R, alloc: Global, asked: Asked<'_>) -> Ans
     }
 }
 
-/// What is run: the words of the command, as a text with a space between each two, the log, and the files, each a name and a content.
+/// What is run: the words of the command, as a text with a space between each two, the log, and the files, each a name
+/// and a content.
 #[derive(Clone, Copy)]
 struct Case<'a> {
     command: &'a str,
@@ -91,8 +93,8 @@ fn command_of(alloc: Global, command: &str) -> Result<Vec<&str>, Unread> {
     Ok(words)
 }
 
-/// What comes of a run in which the listed reads of files, reads of the log and writes fail: its status, what was written, how many
-/// bytes of the log are left, and how many of each kind failed.
+/// What comes of a run in which the listed reads of files, reads of the log and writes fail: its status, what was
+/// written, how many bytes of the log are left, and how many of each kind failed.
 fn one<R: Threads + Sync>(rt: &R, alloc: Global, words: &[&[u8]]) -> Result<String, Unread> {
     let [files_failing, reads, writes, command, log, files @ ..] = words else {
         return Err(Unread::Call);
@@ -176,8 +178,8 @@ impl Same {
 /// How many calls of a kind are tried at most.
 const MOST_CALLS: u64 = 10_000;
 
-/// The runs in which the first call of a kind fails, the second, and so on, up to the run in which none does: how many came to the same,
-/// their status and what was written; and after `-` those of the last run.
+/// The runs in which the first call of a kind fails, the second, and so on, up to the run in which none does: how many
+/// came to the same, their status and what was written; and after `-` those of the last run.
 fn each<R: Threads + Sync>(
     rt: &R,
     alloc: Global,
@@ -205,7 +207,8 @@ fn each<R: Threads + Sync>(
     Err(Unread::Value)
 }
 
-/// The runs so far and one more; those that came to the same are put after other words if this one came to something else.
+/// The runs so far and one more; those that came to the same are put after other words if this one came to something
+/// else.
 fn counted(answer: Answer, same: Option<Same>, done: Done) -> (Answer, Option<Same>) {
     match same {
         Some(same) if same.is_so(&done) => {

@@ -13,7 +13,8 @@ use Rattle.verify_rules.specs.declared.refusal.ScreenFault.TheVariants as answer
 use Rattle.verify_rules.specs.declared.verdict.Verdict.{Verdict}
 use Rattle.verify_rules.specs.declared.verdict.Verdict.TheVariants.{Passed, Refused, Unread, Unasked}
 
--- what a verdict tells of the rules of the call: a call that it refuses is refused, by whichever rule, and any other is screened
+-- what a verdict tells of the rules of the call: a call that it refuses is refused, by whichever rule, and any other is
+-- screened
 abbrev pub early_answer : Call → Verdict → Result ScreenedView ScreenFault
 early_answer call Passed = Ok (screened_of call)
 early_answer call (Refused refused) = Err (answers.Refused refused)

@@ -1,6 +1,7 @@
--- What the rules see of a call: its moment, its message and the Identity fields of that (RFC 8224, section 4), and what the PASSporTs
--- of these say.
-use Rattle.std.specs.Prelude.{ℕ, suc, ◌+◌, Bool, true, false, List, [], ◌∷◌, ◌++◌, map, filter, find, slice_index_or, codes, Option, Some, None, Result, Ok, Err, option_to_list, unwrap_or}
+-- What the rules see of a call: its moment, its message and the Identity fields of that (RFC 8224, section 4), and what
+-- the PASSporTs of these say.
+use Rattle.std.specs.Prelude.{ℕ, suc, ◌+◌, Bool, true, false, List, [], ◌∷◌, ◌++◌, map, filter, find, slice_index_or}
+use Rattle.std.specs.Prelude.{codes, Option, Some, None, Result, Ok, Err, option_to_list, unwrap_or}
 use Rattle.std.specs.List.{filter_map}
 use Rattle.std.specs.Option.{option_or}
 use Rattle.std.specs.Result.{result_ok}
@@ -79,8 +80,8 @@ has_ppt ppt field = is_text ppt field.parts.ppt
 abbrev pub lacks_ppt : IdentityField → Bool
 lacks_ppt field = is_absent field.parts.ppt
 
--- the field of the PASSporT that the originating side signed: the first with ppt `shaken` (RFC 8588), or else the first without
--- a ppt
+-- the field of the PASSporT that the originating side signed: the first with ppt `shaken` (RFC 8588), or else the first
+-- without a ppt
 abbrev pub originating : List IdentityField → Option IdentityField
 originating fields = option_or (find (has_ppt (codes "shaken")) fields) (find lacks_ppt fields)
 
@@ -94,8 +95,8 @@ judged_fields fields = option_to_list (originating fields) ++ links fields
 
 -- ---- the PASSporTs
 
--- what a message says beside its Identity fields: its Date, the number that calls, and the numbers of To and of the request URI
--- (RFC 8224, section 4.1)
+-- what a message says beside its Identity fields: its Date, the number that calls, and the numbers of To and of the
+-- request URI (RFC 8224, section 4.1)
 abbrev pub facts_of : LocalView → MessageView → Facts
 facts_of local message = record {
   date = date message;
@@ -113,15 +114,18 @@ facts call = facts_in call.settings.local call.message
 
 -- what a PASSporT in its compact form leaves to the message and to its field (RFC 8225, section 7)
 abbrev pub given_to_compact : Facts → Parts → CallView
-given_to_compact said parts = record { iat = said.date; orig = said.calling; dest = said.to; info = parts.info; ppt = parts.ppt }
+given_to_compact said parts =
+    record { iat = said.date; orig = said.calling; dest = said.to; info = parts.info; ppt = parts.ppt }
 
--- the mark of a PASSporT: the number of its Identity field, counted from 1, the digest of what was signed, and the signature
+-- the mark of a PASSporT: the number of its Identity field, counted from 1, the digest of what was signed, and the
+-- signature
 pub record Mark : Type 0 where
   pub field : ℕ
   pub digest : List ℕ
   pub signature : List ℕ
 
--- a PASSporT as it is read: what it says, what was signed as it, and its mark, which is the number of its field, its ticket and its signature
+-- a PASSporT as it is read: what it says, what was signed as it, and its mark, which is the number of its field, its
+-- ticket and its signature
 pub record Reading : Type 0 where
   pub passport : ClaimsView
   pub signing : List ℕ
@@ -143,7 +147,8 @@ marked_or_part signing mark (Ok claims) = Ok (reading claims signing mark)
 marked_or_part signing mark (Err fault) = Err (10 + unwrap_or (claim_number fault) 0)
 
 abbrev pub reading_by : IdentityField → Result TokenView TokenFault → Result Reading ℕ
-reading_by field (Ok token) = marked_or_part token.signing (mark_of field.number token) (read_claims token.header token.payload field.parts.ppt field.parts.info)
+reading_by field (Ok token) = marked_or_part token.signing (mark_of field.number token)
+    (read_claims token.header token.payload field.parts.ppt field.parts.info)
 reading_by field (Err fault) = Err (unwrap_or (token_number fault) 0)
 
 -- the PASSporT of a field, or the number of the first check of its token or its claims that it breaks

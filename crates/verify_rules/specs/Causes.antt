@@ -23,10 +23,11 @@ pub record HasFailed (faults faults_now : ℕ) (bad : Place) : Type 0 where
   pub rose : Rose faults faults_now
   pub part : bad.part ≡ 0
 
--- unread for a chain that was handed in so; and unasked for a chain that was handed in with a failed question, or for one that failed in
--- this call
+-- unread for a chain that was handed in so; and unasked for a chain that was handed in with a failed question, or for
+-- one that failed in this call
 abbrev pub IsCaused : List Reading → List State → ℕ → ℕ → Verdict → Type 0
 IsCaused readings states faults faults_now Passed = ⊤
 IsCaused readings states faults faults_now (Refused refused) = ⊤
 IsCaused readings states faults faults_now (Unread bad) = IsUnknownAt readings states bad
-IsCaused readings states faults faults_now (Unasked bad) = IsLeftOpen readings states bad ⊎ HasFailed faults faults_now bad
+IsCaused readings states faults faults_now (Unasked bad) =
+    IsLeftOpen readings states bad ⊎ HasFailed faults faults_now bad

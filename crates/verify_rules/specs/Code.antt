@@ -5,8 +5,8 @@ use Rattle.std.specs.Prelude.{◌≡◌, ⊤, ℕ, ◌==◌, Bool, ◌||◌, ◌
 abbrev pub is_unsupported : ℕ → Bool
 is_unsupported rule = rule == 5 || (nat_le 11 rule && nat_le rule 15) || rule == 17 || rule == 19
 
--- 400 the request, 428 no Identity, 403 an old one, 436 a certificate that isn't there, 437 one that can't be trusted, 438 an Identity
--- that can't be used
+-- 400 the request, 428 no Identity, 403 an old one, 436 a certificate that isn't there, 437 one that can't be trusted,
+-- 438 an Identity that can't be used
 abbrev pub code_of : ℕ → ℕ
 code_of rule =
     if rule == 1 then 400 else if rule == 2 || rule == 4 then 428 else if rule == 9 then 403 else if rule == 10 then 436
@@ -21,9 +21,8 @@ IsByRows (row ∷ others) rule code = (rule ≡ row.0 → code ≡ row.1) × IsB
 
 -- each rule from 1 to 19, of which 18 is the one on replay, and its response code
 abbrev pub code_rows : List (ℕ × ℕ)
-code_rows =
-    (1, 400) ∷ (2, 428) ∷ (3, 438) ∷ (4, 428) ∷ (5, 437) ∷ (6, 438) ∷ (7, 438) ∷ (8, 438) ∷ (9, 403) ∷ (10, 436) ∷ (11, 437) ∷ (12, 437)
-    ∷ (13, 437) ∷ (14, 437) ∷ (15, 437) ∷ (16, 438) ∷ (17, 437) ∷ (18, 438) ∷ (19, 437) ∷ []
+code_rows = (1, 400) ∷ (2, 428) ∷ (3, 438) ∷ (4, 428) ∷ (5, 437) ∷ (6, 438) ∷ (7, 438) ∷ (8, 438) ∷ (9, 403) ∷ (10, 436)
+    ∷ (11, 437) ∷ (12, 437) ∷ (13, 437) ∷ (14, 437) ∷ (15, 437) ∷ (16, 438) ∷ (17, 437) ∷ (18, 438) ∷ (19, 437) ∷ []
 
 -- the rule has this code
 unfoldable pub HasCode : ℕ → ℕ → Type 0

@@ -1,6 +1,7 @@
 -- The rules of the chains, 10 to 17 and 19: what the certificate chains of a call's PASSporTs say.
 -- Each is asked of a PASSporT and of what is known of its chain, in
--- the order in which the call went. A rule is stated only if those before it hold; what its definition gives otherwise is never looked at.
+-- the order in which the call went. A rule is stated only if those before it hold; what its definition gives otherwise
+-- is never looked at.
 use Rattle.std.specs.Prelude.{ℕ, Bool, true, false, ◌&&◌, ◌||◌, List, [], ◌∷◌, Option, Some, None, unwrap_or}
 use Rattle.std.specs.List.{list_any, slice_get}
 use Rattle.std.specs.Option.{option_or}
@@ -29,8 +30,8 @@ use Rattle.verify_rules.specs.declared.late.LateRule.TheVariants as late
 use Rattle.verify_rules.specs.declared.late.RuleResult.{RuleResult}
 use Rattle.verify_rules.specs.declared.late.RuleResult.TheVariants as results
 
--- ---- what a rule says of one PASSporT: it holds; it is broken at this part, a certificate's number or 0; nothing, since the chain isn't
--- known; or nothing, since the provider failed at the signature of this certificate
+-- ---- what a rule says of one PASSporT: it holds; it is broken at this part, a certificate's number or 0; nothing,
+-- since the chain isn't known; or nothing, since the provider failed at the signature of this certificate
 
 abbrev pub by_part : Option ℕ → RuleResult
 by_part None = results.Holds
@@ -54,8 +55,8 @@ abbrev pub is_signed_by : Says → Reading → Option CertView → Bool
 is_signed_by says one None = false
 is_signed_by says one (Some leaf) = says leaf.key one.mark.digest one.mark.signature
 
--- ---- rule 17, what the leaf's authority must cover (ATIS-1000074, section 5.2.3; RFC 8946, section 4.2; which attestation asks for which
--- coverage is this project's own rule)
+-- ---- rule 17, what the leaf's authority must cover (ATIS-1000074, section 5.2.3; RFC 8946, section 4.2; which
+-- attestation asks for which coverage is this project's own rule)
 
 abbrev pub is_code : Entry → Bool
 is_code (Code code) = true
@@ -76,10 +77,11 @@ allows_code (Some level) = is_partial level
 abbrev pub vouched : List ℕ → Option (List ℕ) → List ℕ
 vouched orig diverted = unwrap_or diverted orig
 
--- by the entries of the leaf's list: they cover the number that the PASSporT vouches for; or any code is among them, if its attestation allows it
+-- by the entries of the leaf's list: they cover the number that the PASSporT vouches for; or any code is among them, if
+-- its attestation allows it
 abbrev pub covers_kind : Table → List Entry → List ℕ → Kind → Bool
-covers_kind table entries orig kind =
-    covers_number entries table (vouched orig (div_in kind)) || (allows_code (level_in kind) && list_any is_code entries)
+covers_kind table entries orig kind = covers_number entries table (vouched orig (div_in kind))
+    || (allows_code (level_in kind) && list_any is_code entries)
 
 -- that there is a list is rule 14
 abbrev pub covers_by : Table → ClaimsView → Option (List Entry) → Bool
@@ -110,7 +112,8 @@ tell_judged late.Shape table moment one judged = by_part judged.shape
 tell_judged late.Dates table moment one judged = by_part (out_of_date judged moment)
 tell_judged late.Authority table moment one judged = by_part judged.authority
 tell_judged late.Asked table moment one judged = by_answer judged.asked
-tell_judged late.Covers table moment one judged = or_broken (covers_leaf table one.passport (slice_get judged.certificates 0))
+tell_judged late.Covers table moment one judged =
+    or_broken (covers_leaf table one.passport (slice_get judged.certificates 0))
 tell_judged late.Constraints table moment one judged = by_part (first_unmet (payload_of one) 1 judged.certificates)
 
 -- rule 10 alone looks at a chain that isn't there (RFC 8224, section 6.2.2)
@@ -160,7 +163,8 @@ unless_signed field true = None
 unless_signed field false = Some (events.Refused (refusal 16 (place field 0)))
 
 unfoldable pub at_asking : Says → Reading → State → Option Event
-at_asking says one (have judged) = unless_signed one.mark.field (is_signed_by says one (slice_get judged.certificates 0))
+at_asking says one (have judged) =
+    unless_signed one.mark.field (is_signed_by says one (slice_get judged.certificates 0))
 at_asking says one no_chain = None
 at_asking says one long = None
 at_asking says one unread = Some (events.Unread (place one.mark.field 0))
@@ -180,7 +184,8 @@ asking says readings states = first_of (at_asking says) readings states
 -- the first of these rules that makes something of them
 abbrev pub first_rule : List LateRule → Table → ℕ → List Reading → List State → Option Event
 first_rule [] table moment readings states = None
-first_rule (rule ∷ rules) table moment readings states = option_or (rule_event rule table moment readings states) (first_rule rules table moment readings states)
+first_rule (rule ∷ rules) table moment readings states =
+    option_or (rule_event rule table moment readings states) (first_rule rules table moment readings states)
 
 -- those before rule 16, and those after it
 abbrev pub rules_before : List LateRule

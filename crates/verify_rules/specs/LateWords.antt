@@ -1,5 +1,5 @@
--- The rules of the chains in their own words: what holds, in a world, of the certificates of a PASSporT if a rule holds, and which rule is the
--- first that doesn't.
+-- The rules of the chains in their own words: what holds, in a world, of the certificates of a PASSporT if a rule
+-- holds, and which rule is the first that doesn't.
 use Rattle.std.specs.Prelude.{◌≡◌, ⊤, ◌⊎◌, ℕ, ◌<◌, ◌≤◌, true, List, length, Option, Some, None}
 use Rattle.std.specs.List.{slice_get}
 use Rattle.stir_outside.specs.Files.{file}
@@ -54,7 +54,8 @@ OfEach chain Holds = (number : ℕ) → 1 ≤ number → number ≤ length chain
 
 -- its certificates are a path up to an anchor, and this holds of each of them
 abbrev pub OnPath : World → Reading → (List CertView → Option ℕ → ℕ → Type 0) → Type 0
-OnPath world one Holds = (chain : List CertView) × (anchor : Option ℕ) × HasPath world one chain anchor × OfEach chain (Holds chain anchor)
+OnPath world one Holds =
+    (chain : List CertView) × (anchor : Option ℕ) × HasPath world one chain anchor × OfEach chain (Holds chain anchor)
 
 -- ---- what each rule says of a PASSporT
 
@@ -82,13 +83,15 @@ HasAuthority world one = OnPath world one (λ chain anchor. IsAuthorized world.t
 abbrev pub IsCertified : World → Reading → Type 0
 IsCertified world one = OnPath world one (λ chain anchor. IsSigned world.says world.anchors anchor chain)
 
--- 16: the signature of the PASSporT is good under the leaf's key, over the digest of what was signed (RFC 8224, section 6.2)
+-- 16: the signature of the PASSporT is good under the leaf's key, over the digest of what was signed (RFC 8224, section
+-- 6.2)
 abbrev pub IsGenuine : World → Reading → Type 0
-IsGenuine world one = (leaf : CertView) × HasLeaf world one leaf × (world.says leaf.key one.mark.digest one.mark.signature ≡ true)
+IsGenuine world one =
+    (leaf : CertView) × HasLeaf world one leaf × (world.says leaf.key one.mark.digest one.mark.signature ≡ true)
 
--- entries cover the calling number, or that which was diverted if the PASSporT is of a diversion; they needn't if they name some code, at partial
--- and gateway attestation (RFC 8226, section 9; RFC 8588, section 4; RFC 8946, section 4.2; which attestation asks for which coverage is this
--- project's own rule)
+-- entries cover the calling number, or that which was diverted if the PASSporT is of a diversion; they needn't if they
+-- name some code, at partial and gateway attestation (RFC 8226, section 9; RFC 8588, section 4; RFC 8946, section 4.2;
+-- which attestation asks for which coverage is this project's own rule)
 abbrev pub CoversVouched : Table → List Entry → List ℕ → Option (List ℕ) → Type 0
 CoversVouched table entries orig None = Covers entries table orig
 CoversVouched table entries orig (Some diverted) = Covers entries table diverted
@@ -100,8 +103,8 @@ AllowsCode (Some levels.B) = ⊤
 AllowsCode (Some levels.C) = ⊤
 
 abbrev pub CoversKind : Table → List Entry → List ℕ → Kind → Type 0
-CoversKind table entries orig kind =
-    CoversVouched table entries orig (div_in kind) ⊎ (AllowsCode (level_in kind) × ((code : List ℕ) × NamesCode entries code))
+CoversKind table entries orig kind = CoversVouched table entries orig (div_in kind)
+    ⊎ (AllowsCode (level_in kind) × ((code : List ℕ) × NamesCode entries code))
 
 -- 17: the leaf's authority list covers what the PASSporT speaks for
 pub record IsCovered (world : World) (one : Reading) : Type 0 where
@@ -111,23 +114,24 @@ pub record IsCovered (world : World) (one : Reading) : Type 0 where
   pub has_list : leaf.list ≡ Some entries
   pub covers : CoversKind world.table entries one.passport.orig one.passport.kind
 
--- 19: for each certificate of its chain that has constraints, they are met by the PASSporT's payload, which is the one that was signed (after
--- RFC 8226, section 8; form and meaning are this project's own)
+-- 19: for each certificate of its chain that has constraints, they are met by the PASSporT's payload, which is the one
+-- that was signed (after RFC 8226, section 8; form and meaning are this project's own)
 pub record PayloadMeets (one : Reading) (c : ConstraintsView) : Type 0 where
   pub payload : Data
   pub signed : payload_of one ≡ Some payload
   pub meets : Meets c payload
 
 abbrev pub MeetsAt : Reading → List CertView → ℕ → Type 0
-MeetsAt one chain number = (certificate : CertView) (c : ConstraintsView) → IsNumbered chain number certificate → certificate.constraints ≡ Some c → PayloadMeets one c
+MeetsAt one chain number = (certificate : CertView) (c : ConstraintsView) → IsNumbered chain number certificate
+    → certificate.constraints ≡ Some c → PayloadMeets one c
 
 abbrev pub IsAllowed : World → Reading → Type 0
 IsAllowed world one = (chain : List CertView) × HasChain world one chain × OfEach chain (MeetsAt one chain)
 
 -- ---- what a verdict says of a rule
 
--- a call that passed meets it; one that this rule refuses doesn't; one that a later rule refuses does, and so does one that is set aside for an
--- unanswered question, if the rule is before the first that asks
+-- a call that passed meets it; one that this rule refuses doesn't; one that a later rule refuses does, and so does one
+-- that is set aside for an unanswered question, if the rule is before the first that asks
 abbrev pub MeansLate : ℕ → Type 0 → Verdict → Type 0
 MeansLate number P Passed = P
 MeansLate number P (Refused refused) = (refused.rule ≡ number → P → ⊥) × (number < refused.rule → P)

@@ -26,8 +26,8 @@ IsOfChain late.Dates = ⊥
 IsOfChain late.Covers = ⊥
 IsOfChain rule = ⊤
 
--- The chain map lists a chain for the PASSporT, of which each of these rules holds: 10 to 12, 14, 15 and 19. Its leaf has this list, and under the leaf's
--- key the signature of the PASSporT is good.
+-- The chain map lists a chain for the PASSporT, of which each of these rules holds: 10 to 12, 14, 15 and 19. Its leaf
+-- has this list, and under the leaf's key the signature of the PASSporT is good.
 pub record HasGoodChain (world : World) (moment : ℕ) (one : Reading) (entries : List Entry) : Type 0 where
   pub rules : (rule : LateRule) → IsOfChain rule → HoldsOf world rule moment one
   pub judged : JudgedView
@@ -37,9 +37,10 @@ pub record HasGoodChain (world : World) (moment : ℕ) (one : Reading) (entries 
   pub list : leaf.list ≡ Some entries
   pub genuine : world.says leaf.key one.mark.digest one.mark.signature ≡ true
 
--- The rules of the chains hold of a call, and so they hold of it with a link more after the others: one whose chain is good and whose leaf covers
--- what it vouches for, at a moment at which all certificates are valid.
+-- The rules of the chains hold of a call, and so they hold of it with a link more after the others: one whose chain is
+-- good and whose leaf covers what it vouches for, at a moment at which all certificates are valid.
 abbrev pub LinkMore : Type 0
-LinkMore = (world : World) (call out : Call) (link : Reading) (entries : List Entry) → in_call_order out ≡ in_call_order call ++ link ∷ []
-    → HoldAll (late_rules world) call → AreInDate world out → HasGoodChain world out.moment link entries
+LinkMore = (world : World) (call out : Call) (link : Reading) (entries : List Entry)
+    → in_call_order out ≡ in_call_order call ++ link ∷ [] → HoldAll (late_rules world) call → AreInDate world out
+    → HasGoodChain world out.moment link entries
     → covers_kind world.table entries link.passport.orig link.passport.kind ≡ true → HoldAll (late_rules world) out

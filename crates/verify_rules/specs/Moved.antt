@@ -8,10 +8,12 @@ use Rattle.verify_rules.specs.declared.settings.Settings.{Settings}
 
 -- its PASSporTs say the same,
 abbrev pub SaysSame : Type 0
-SaysSame = (settings other : Settings) (moment later : ℕ) (message : MessageView) (uri : List ℕ) → other.local ≡ settings.local
+SaysSame = (settings other : Settings) (moment later : ℕ) (message : MessageView) (uri : List ℕ)
+    → other.local ≡ settings.local
     → in_message (read_call other later (to_uri message uri)) ≡ in_message (read_call settings moment message)
 
 -- and rules 1 to 7 hold of it if they held
 abbrev pub HoldsMoved : Type 0
-HoldsMoved = (settings other : Settings) (moment later : ℕ) (message : MessageView) (uri : List ℕ) → other.local ≡ settings.local
-    → HoldAll (take 7 early_rules) (read_call settings moment message) → HoldAll (take 7 early_rules) (read_call other later (to_uri message uri))
+HoldsMoved = (settings other : Settings) (moment later : ℕ) (message : MessageView) (uri : List ℕ)
+    → other.local ≡ settings.local → HoldAll (take 7 early_rules) (read_call settings moment message)
+    → HoldAll (take 7 early_rules) (read_call other later (to_uri message uri))

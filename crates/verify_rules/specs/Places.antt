@@ -1,5 +1,5 @@
--- Where the rules of the call are broken, in words. A place has the number of an Identity field, or 0 for a rule that speaks of none, and a part,
--- which is 0 if the rule gives it none.
+-- Where the rules of the call are broken, in words. A place has the number of an Identity field, or 0 for a rule that
+-- speaks of none, and a part, which is 0 if the rule gives it none.
 use Rattle.std.specs.Prelude.{◌≡◌, ⊤, ℕ, ◌+◌, ◌<◌, List, ◌∷◌, ◌++◌, length, codes, Some, Result, Ok, Err}
 use Rattle.std.specs.List.{slice_get}
 use Rattle.identity_header.specs.Read.{read as read_parts}
@@ -17,7 +17,8 @@ use Rattle.sip_message.specs.Head.{Head}
 use Rattle.sip_message.specs.Message.{MessageView}
 use Rattle.sip_message.specs.Reading.{read}
 use Rattle.sip_message.specs.declared.fault.FormFault.{FormFault}
-use Rattle.verify_rules.specs.Call.{Call, IdentityField, Reading, facts, fields_of, given_to_compact, in_call_order, in_message, judged_fields, passports_of, values_of}
+use Rattle.verify_rules.specs.Call.{Call, IdentityField, Reading, facts, fields_of, given_to_compact, in_call_order}
+use Rattle.verify_rules.specs.Call.{in_message, judged_fields, passports_of, values_of}
 use Rattle.verify_rules.specs.Rules.{place}
 use Rattle.verify_rules.specs.Screened.{ScreenedView}
 use Rattle.verify_rules.specs.Went.{AreCalled}
@@ -39,20 +40,23 @@ pub record IsFirstWrong {A : Type 0} (Holds : A → Type 0) (items : List A) (wr
 -- 1: the bytes are no message, at the place of its fault, or one whose method isn't INVITE
 pub data NoInviteAt (bytes : List ℕ) (bad : Place) : Type 0 where
   no_message : (fault : FormFault) → read bytes ≡ Err fault → bad ≡ place 0 fault.place → NoInviteAt bytes bad
-  other_method : (message : MessageView) → Head bytes message → (message.method ≡ codes "INVITE" → ⊥) → bad ≡ place 0 0 → NoInviteAt bytes bad
+  other_method : (message : MessageView) → Head bytes message → (message.method ≡ codes "INVITE" → ⊥)
+      → bad ≡ place 0 0 → NoInviteAt bytes bad
 
--- 3: the first value outside the grammar, which is one of the first 16, at the place of its fault; or these are in the grammar, and there are more
+-- 3: the first value outside the grammar, which is one of the first 16, at the place of its fault; or these are in the
+-- grammar, and there are more
 pub data BadFieldAt (values : List (List ℕ)) (bad : Place) : Type 0 where
-  bad_text : (value : List ℕ) (w : IsFirstWrong IsFieldText values value) → length w.before < 16 → (fault : FieldFault) → read_parts value ≡ Err fault
-      → bad ≡ place (length w.before + 1) fault.place → BadFieldAt values bad
-  too_many : (most : List (List ℕ)) (next : List ℕ) (behind : List (List ℕ)) → values ≡ most ++ next ∷ behind → length most ≡ 16 → Each IsFieldText most
-      → bad ≡ place 17 0 → BadFieldAt values bad
+  bad_text : (value : List ℕ) (w : IsFirstWrong IsFieldText values value) → length w.before < 16 → (fault : FieldFault)
+      → read_parts value ≡ Err fault → bad ≡ place (length w.before + 1) fault.place → BadFieldAt values bad
+  too_many : (most : List (List ℕ)) (next : List ℕ) (behind : List (List ℕ)) → values ≡ most ++ next ∷ behind
+      → length most ≡ 16 → Each IsFieldText most → bad ≡ place 17 0 → BadFieldAt values bad
 
 -- 6: the number of the token's fault, 1 to 5, or 10 and that of the claims' fault, 1 to 10
 pub data IsUnreadableAs (said : Facts) (field : IdentityField) (part : ℕ) : Type 0 where
   by_token : (fault : TokenFault) → read_token (given_to_compact said field.parts) field.parts.token ≡ Err fault
       → ((number : ℕ) → token_number fault ≡ Some number → part ≡ number) → IsUnreadableAs said field part
-  by_claims : (token : TokenView) (fault : ClaimFault) → read_token (given_to_compact said field.parts) field.parts.token ≡ Ok token
+  by_claims : (token : TokenView) (fault : ClaimFault)
+      → read_token (given_to_compact said field.parts) field.parts.token ≡ Ok token
       → read_claims token.header token.payload field.parts.ppt field.parts.info ≡ Err fault
       → ((number : ℕ) → claim_number fault ≡ Some number → part ≡ 10 + number) → IsUnreadableAs said field part
 
@@ -65,7 +69,8 @@ pub record NoOrderAt (said : Facts) (readings : List Reading) (bad : Place) : Ty
   pub part : bad.part ≡ fault.kind
 
 -- it is at the first of these fields of which this doesn't hold, and there at this part
-pub record AtFirstField (Holds : IdentityField → Type 0) (Part : IdentityField → ℕ → Type 0) (fields : List IdentityField) (bad : Place) : Type 0 where
+pub record AtFirstField (Holds : IdentityField → Type 0) (Part : IdentityField → ℕ → Type 0)
+    (fields : List IdentityField) (bad : Place) : Type 0 where
   pub field : IdentityField
   pub first : IsFirstWrong Holds fields field
   pub part : ℕ
@@ -73,7 +78,8 @@ pub record AtFirstField (Holds : IdentityField → Type 0) (Part : IdentityField
   pub stands : bad ≡ place field.number part
 
 -- it is at the first of these PASSporTs of which this doesn't hold
-pub record AtFirst (Holds : Reading → Type 0) (Part : Reading → ℕ → Type 0) (readings : List Reading) (bad : Place) : Type 0 where
+pub record AtFirst (Holds : Reading → Type 0) (Part : Reading → ℕ → Type 0) (readings : List Reading)
+    (bad : Place) : Type 0 where
   pub one : Reading
   pub first : IsFirstWrong Holds readings one
   pub part : ℕ
@@ -91,7 +97,8 @@ pub record IsPlaced (bytes : List ℕ) (call : Call) (refused : Refusal) : Type 
   pub fields : refused.rule ≡ 3 → BadFieldAt (values_of call) refused.place
   pub originating : refused.rule ≡ 4 → refused.place ≡ place 0 0
   pub algorithms : refused.rule ≡ 5 → AtFirstField IsEs256 NoPart (judged_fields (fields_of call)) refused.place
-  pub tokens : refused.rule ≡ 6 → AtFirstField (CanBeRead (facts call)) (IsUnreadableAs (facts call)) (judged_fields (fields_of call)) refused.place
+  pub tokens : refused.rule ≡ 6 → AtFirstField (CanBeRead (facts call)) (IsUnreadableAs (facts call))
+      (judged_fields (fields_of call)) refused.place
   pub calling : refused.rule ≡ 7 → AtFirst (IsFrom (facts call).calling) NoPart (in_message call) refused.place
   pub order : refused.rule ≡ 8 → NoOrderAt (facts call) (in_message call) refused.place
   pub fresh : refused.rule ≡ 9 → AtFirst (IsFresh call.settings call.moment) NoPart (in_call_order call) refused.place

@@ -7,7 +7,8 @@ use Rattle.verify_rules.specs.declared.identity_field.Ppt.{Ppt}
 use Rattle.verify_rules.specs.declared.identity_field.Ppt.TheVariants.{Absent, Shaken, Div, Other}
 
 abbrev pub type_of_text : List ℕ → Ppt
-type_of_text text = if bytes_eq text (codes "shaken") then Shaken else (if bytes_eq text (codes "div") then Div else Other)
+type_of_text text = if bytes_eq text (codes "shaken") then Shaken
+    else (if bytes_eq text (codes "div") then Div else Other)
 
 -- what a type is
 unfoldable pub ppt_of : Option (List ℕ) → Ppt

@@ -1,6 +1,7 @@
--- The rules by which a call is judged, and the first that it breaks. A rule is stated of a call only if all rules before it hold; what
--- its definition gives otherwise is never looked at.
-use Rattle.std.specs.Prelude.{◌≡◌, ℕ, suc, ◌+◌, nat_lt, Bool, ◌||◌, ⊤, List, [], ◌∷◌, ◌++◌, map, slice_index_or, Option, Some, None, Result, Ok, Err, codes, if◌then◌else◌}
+-- The rules by which a call is judged, and the first that it breaks. A rule is stated of a call only if all rules
+-- before it hold; what its definition gives otherwise is never looked at.
+use Rattle.std.specs.Prelude.{◌≡◌, ℕ, suc, ◌+◌, nat_lt, Bool, ◌||◌, ⊤, List, [], ◌∷◌, ◌++◌, map, slice_index_or, Option}
+use Rattle.std.specs.Prelude.{Some, None, Result, Ok, Err, codes, if◌then◌else◌}
 use Rattle.std.specs.Option.{option_or}
 use Rattle.identity_header.specs.Parts.{Parts}
 use Rattle.identity_header.specs.Read.{read as read_parts}
@@ -10,7 +11,8 @@ use Rattle.sip_message.specs.Accessors.{is_invite}
 use Rattle.sip_message.specs.Message.{MessageView}
 use Rattle.sip_message.specs.declared.fault.FormFault.{FormFault}
 use Rattle.passport_claims.specs.Passport.{is_text}
-use Rattle.verify_rules.specs.Call.{Call, IdentityField, Reading, facts, fields_of, in_call_order, in_message, is_absent, judged_fields, originating, read_field, turn_of, values_of}
+use Rattle.verify_rules.specs.Call.{Call, IdentityField, Reading, facts, fields_of, in_call_order, in_message}
+use Rattle.verify_rules.specs.Call.{is_absent, judged_fields, originating, read_field, turn_of, values_of}
 use Rattle.verify_rules.specs.declared.facts.Facts.{Facts}
 use Rattle.verify_rules.specs.declared.refusal.Place.{Place}
 use Rattle.verify_rules.specs.declared.refusal.Refusal.{Refusal}
@@ -51,7 +53,8 @@ abbrev pub no_identity : List (List ℕ) → Option Place
 no_identity [] = Some (place 0 0)
 no_identity (value ∷ others) = None
 
--- ---- rule 3, an Identity field outside the grammar, or one too many (RFC 8224, section 4; the limit is this project's own)
+-- ---- rule 3, an Identity field outside the grammar, or one too many (RFC 8224, section 4; the limit is this project's
+-- own)
 
 abbrev pub most_fields : ℕ
 most_fields = 16
@@ -63,8 +66,8 @@ bad_or_later number (Err fault) later = Some (place number fault.place)
 -- the first bad field from this number on
 abbrev pub bad_field : ℕ → List (List ℕ) → Option Place
 bad_field number [] = None
-bad_field number (value ∷ others) =
-    if nat_lt most_fields number then Some (place 17 0) else bad_or_later number (read_parts value) (bad_field (suc number) others)
+bad_field number (value ∷ others) = if nat_lt most_fields number then Some (place 17 0)
+    else bad_or_later number (read_parts value) (bad_field (suc number) others)
 
 -- ---- rule 4, no originating field (RFC 8224, section 6.2)
 

@@ -1,5 +1,6 @@
 -- What comes of a call by the rules of the call.
-use Rattle.std.specs.Prelude.{◌≡◌, ⊤, ℕ, ◌+◌, ◌-◌, ◌<◌, ◌≤◌, List, ◌++◌, length, take, slice_index, Option, Some, None, Result, Ok, Err}
+use Rattle.std.specs.Prelude.{◌≡◌, ⊤, ℕ, ◌+◌, ◌-◌, ◌<◌, ◌≤◌, List, ◌++◌, length, take, slice_index, Option, Some, None}
+use Rattle.std.specs.Prelude.{Result, Ok, Err}
 use Rattle.std.specs.List.{slice_get}
 use Rattle.std.specs.Option.{option_map}
 use Rattle.passport_claims.specs.Links.{IsOneOf}
@@ -50,7 +51,8 @@ last_of_call call = iat_or_none (last_of (in_call_order call)) + call.settings.p
 
 -- a judged PASSporT as it is kept
 abbrev pub judged_seen : JudgedPassport → Reading
-judged_seen one = reading one.claims one.signed (record { field = one.field; digest = one.digest; signature = one.signature })
+judged_seen one =
+    reading one.claims one.signed (record { field = one.field; digest = one.digest; signature = one.signature })
 
 -- an order of so many links after the originating PASSporT: each of its numbers is that of a link
 pub record IsTurned (readings : List Reading) (count : ℕ) (turn : List ℕ) : Type 0 where

@@ -1,5 +1,6 @@
 -- The code's views, as the definitions speak of them, and what each step of the rules gives.
-use Rattle.std.specs.Prelude.{Bool, nat_eq, codes, if◌then◌else◌, ◌≡◌, ⊤, ℕ, ◌+◌, ◌≤◌, List, [], ◌∷◌, ◌++◌, length, map, take, drop, Some, None, Result, Ok, Err}
+use Rattle.std.specs.Prelude.{Bool, nat_eq, codes, if◌then◌else◌, ◌≡◌, ⊤, ℕ, ◌+◌, ◌≤◌, List, [], ◌∷◌, ◌++◌, length, map}
+use Rattle.std.specs.Prelude.{take, drop, Some, None, Result, Ok, Err}
 use Rattle.std.specs.List.{starts_with}
 use Rattle.identity_header.specs.Parts.{Parts}
 use Rattle.identity_header.specs.declared.field.FieldFault.{FieldFault}
@@ -44,7 +45,8 @@ is_compact field = starts_with nat_eq field.parts.token (codes "..")
 
 -- what a message says, its Date only if it is asked for
 abbrev pub facts_asked : Bool → Facts → Facts
-facts_asked asked full = record { date = if asked then full.date else None; calling = full.calling; to = full.to; target = full.target }
+facts_asked asked full =
+    record { date = if asked then full.date else None; calling = full.calling; to = full.to; target = full.target }
 
 -- these facts serve these fields as well as those do
 pub record Serves (said full : Facts) (fields : List IdentityField) : Type 0 where
@@ -79,10 +81,13 @@ AreReadings said fields (Err (Broken bad)) = each (unreadable said) fields ≡ S
 AreReadings said fields (Err Memory) = ⊤
 
 -- the originating field and the links up to here can be read, and these are their PASSporTs
-pub record ReadSoFar (said : Facts) (origin : IdentityField) (fields : List NumberedField) (i : ℕ) (so_far : List Reading) : Type 0 where
+pub record ReadSoFar (said : Facts) (origin : IdentityField) (fields : List NumberedField) (i : ℕ)
+    (so_far : List Reading) : Type 0 where
   pub first : unreadable said origin ≡ None
-  pub good : each (unreadable said) (links (map field_seen (drop i fields))) ≡ each (unreadable said) (links (map field_seen fields))
-  pub all : so_far ++ readings_of said (links (map field_seen (drop i fields))) ≡ readings_of said (origin ∷ links (map field_seen fields))
+  pub good : each (unreadable said) (links (map field_seen (drop i fields)))
+      ≡ each (unreadable said) (links (map field_seen fields))
+  pub all : so_far ++ readings_of said (links (map field_seen (drop i fields)))
+      ≡ readings_of said (origin ∷ links (map field_seen fields))
   pub kept : IsChainable so_far
   pub some : 1 ≤ length so_far
 
@@ -90,5 +95,6 @@ pub record ReadSoFar (said : Facts) (origin : IdentityField) (fields : List Numb
 
 -- the order of the PASSporTs; or where they have none
 abbrev pub GivesOrder : Facts → List Reading → Result Order Place → Type 0
-GivesOrder said readings (Ok order) = (turn_of said readings ≡ Ok (take order.length order.turn)) × IsTurned readings order.length order.turn
+GivesOrder said readings (Ok order) =
+    (turn_of said readings ≡ Ok (take order.length order.turn)) × IsTurned readings order.length order.turn
 GivesOrder said readings (Err bad) = no_order readings (turn_of said readings) ≡ Some bad

@@ -3,8 +3,8 @@ use Rattle.cert_store.specs.Judged.{JudgedView}
 use Rattle.verify_rules.specs.declared.chains.ChainState.{ChainState}
 use Rattle.verify_rules.specs.declared.chains.ChainState.TheVariants as held
 
--- the chain was judged; there is none, since no file is listed for the x5u or the file isn't there; its file has more bytes than a chain
--- may have; or it isn't known, since the file couldn't be read
+-- the chain was judged; there is none, since no file is listed for the x5u or the file isn't there; its file has more
+-- bytes than a chain may have; or it isn't known, since the file couldn't be read
 pub data State : Type 0 where
   have : JudgedView → State
   no_chain : State

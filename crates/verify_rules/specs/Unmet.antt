@@ -1,5 +1,5 @@
--- Rule 19: what the certificates of a chain demand of the claims of a PASSporT (after RFC 8226, section 8; form, meaning and number of the
--- extension are this project's own).
+-- Rule 19: what the certificates of a chain demand of the claims of a PASSporT (after RFC 8226, section 8; form,
+-- meaning and number of the extension are this project's own).
 use Rattle.std.specs.Prelude.{ℕ, ◌+◌, Bool, true, false, List, [], ◌∷◌, Option, Some, None, if◌then◌else◌}
 use Rattle.claim_constraints.specs.Constraints.{ConstraintsView}
 use Rattle.claim_constraints.specs.Meets.{meets}
@@ -16,7 +16,9 @@ abbrev pub is_met : Option ConstraintsView → Option Data → Bool
 is_met None payload = true
 is_met (Some c) payload = are_met c payload
 
--- the number of the first of these certificates whose constraints the payload doesn't meet; they are numbered from this on
+-- the number of the first of these certificates whose constraints the payload doesn't meet; they are numbered from this
+-- on
 abbrev pub first_unmet : Option Data → ℕ → List CertView → Option ℕ
 first_unmet payload number [] = None
-first_unmet payload number (certificate ∷ others) = if is_met certificate.constraints payload then first_unmet payload (number + 1) others else Some number
+first_unmet payload number (certificate ∷ others) =
+    if is_met certificate.constraints payload then first_unmet payload (number + 1) others else Some number

@@ -30,7 +30,8 @@ HasLeaf no_chain = ⊥
 HasLeaf long = ⊥
 HasLeaf unread = ⊥
 
--- the signature of the PASSporT at some index was asked for and the provider failed; the signatures of those before it are good
+-- the signature of the PASSporT at some index was asked for and the provider failed; the signatures of those before it
+-- are good
 pub record IsOpenAt (says : Says) (readings : List Reading) (states : List State) (bad : Place) : Type 0 where
   pub at : ℕ
   pub here : Reading
@@ -41,15 +42,20 @@ pub record IsOpenAt (says : Says) (readings : List Reading) (states : List State
   pub asked : HasLeaf state
   pub before : asking says (take at readings) (take at states) ≡ None
 
--- Passed if the rules of the chains hold; refused by the first that is broken, before anything is left open; unread if rule 10 is tried on a chain
--- that isn't known; and unasked if rule 15 meets a signature whose question failed, or a question of rule 16 failed in this call
+-- Passed if the rules of the chains hold; refused by the first that is broken, before anything is left open; unread if
+-- rule 10 is tried on a chain that isn't known; and unasked if rule 15 meets a signature whose question failed, or a
+-- question of rule 16 failed in this call
 abbrev pub IsVerdict : Says → Table → ℕ → List Reading → List State → ℕ → ℕ → Verdict → Type 0
-IsVerdict says table moment readings states faults faults_now Passed = first_event says table moment readings states ≡ None
-IsVerdict says table moment readings states faults faults_now (Refused refused) = first_event says table moment readings states ≡ Some (events.Refused refused)
-IsVerdict says table moment readings states faults faults_now (Unread bad) = rule_event late.Listed table moment readings states ≡ Some (events.Unread bad)
+IsVerdict says table moment readings states faults faults_now Passed =
+    first_event says table moment readings states ≡ None
+IsVerdict says table moment readings states faults faults_now (Refused refused) =
+    first_event says table moment readings states ≡ Some (events.Refused refused)
+IsVerdict says table moment readings states faults faults_now (Unread bad) =
+    rule_event late.Listed table moment readings states ≡ Some (events.Unread bad)
 IsVerdict says table moment readings states faults faults_now (Unasked bad) =
     (first_rule rules_before table moment readings states ≡ Some (events.Unasked bad))
-    ⊎ ((first_rule rules_before table moment readings states ≡ None) × Rose faults faults_now × IsOpenAt says readings states bad)
+    ⊎ ((first_rule rules_before table moment readings states ≡ None) × Rose faults faults_now
+    × IsOpenAt says readings states bad)
 
 -- the provider failed at the signature of a certificate when the chain of the PASSporT at some index was judged
 pub record IsLeftOpen (readings : List Reading) (states : List State) (bad : Place) : Type 0 where
@@ -71,4 +77,5 @@ OfChainsAlone readings states (Unasked bad) = IsLeftOpen readings states bad
 
 -- a provider whose count of faults stays as it was, below its last value, answered every question
 abbrev pub QuietIs : List Reading → List State → ℕ → ℕ → Verdict → Type 0
-QuietIs readings states faults faults_now verdict = faults_now ≡ faults → faults ≢ last_count → OfChainsAlone readings states verdict
+QuietIs readings states faults faults_now verdict = faults_now ≡ faults → faults ≢ last_count
+    → OfChainsAlone readings states verdict

@@ -1,5 +1,5 @@
--- The order of a call's PASSporTs in words (RFC 8946, section 4.2): the originating one comes first, and then each link once, in the order in
--- which the call was diverted.
+-- The order of a call's PASSporTs in words (RFC 8946, section 4.2): the originating one comes first, and then each link
+-- once, in the order in which the call was diverted.
 use Rattle.std.specs.Prelude.{◌≡◌, ⊤, ℕ, ◌≤◌, List, [], ◌∷◌, length, Option, Some}
 use Rattle.std.specs.List.{slice_get}
 use Rattle.passport_claims.specs.Order.{IsOrder}
@@ -19,7 +19,8 @@ pub record AreCalled (said : Facts) (readings : List Reading) : Type 0 where
   pub called : Option (List ℕ)
   pub now : IsCalledNow said links called
 
--- the PASSporTs with these numbers, one after another: the originating one has number 0, and links count from 1 in the order of the message
+-- the PASSporTs with these numbers, one after another: the originating one has number 0, and links count from 1 in the
+-- order of the message
 abbrev pub AreAt : List Reading → List ℕ → List Reading → Type 0
 AreAt readings [] [] = ⊤
 AreAt readings [] (one ∷ later) = ⊥

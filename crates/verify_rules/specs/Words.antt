@@ -1,6 +1,7 @@
--- The rules in their own words: what holds of a message, its Identity fields and their PASSporTs if a rule holds, and which rule is the
--- first that doesn't.
-use Rattle.std.specs.Prelude.{◌≡◌, ⊤, ◌⊎◌, ℕ, suc, ◌+◌, ◌<◌, ◌≤◌, List, [], ◌∷◌, length, codes, Option, Some, None, Result, Ok, Err}
+-- The rules in their own words: what holds of a message, its Identity fields and their PASSporTs if a rule holds, and
+-- which rule is the first that doesn't.
+use Rattle.std.specs.Prelude.{◌≡◌, ⊤, ◌⊎◌, ℕ, suc, ◌+◌, ◌<◌, ◌≤◌, List, [], ◌∷◌, length, codes, Option, Some, None}
+use Rattle.std.specs.Prelude.{Result, Ok, Err}
 use Rattle.identity_header.specs.FieldText.{FieldText}
 use Rattle.identity_header.specs.Parts.{Parts}
 use Rattle.passport_claims.specs.Claims.{Claims}
@@ -9,7 +10,8 @@ use Rattle.passport_json.specs.Token.{TokenText}
 use Rattle.passport_json.specs.View.{TokenView}
 use Rattle.sip_message.specs.Head.{Head}
 use Rattle.sip_message.specs.Message.{MessageView}
-use Rattle.verify_rules.specs.Call.{Call, IdentityField, Reading, called_by, facts, fields_of, in_call_order, in_message, judged_fields, given_to_compact, mark_of, passports_of, values_of}
+use Rattle.verify_rules.specs.Call.{Call, IdentityField, Reading, called_by, facts, fields_of, in_call_order}
+use Rattle.verify_rules.specs.Call.{in_message, judged_fields, given_to_compact, mark_of, passports_of, values_of}
 use Rattle.verify_rules.specs.Screened.{ScreenedView}
 use Rattle.verify_rules.specs.Went.{WentSo}
 use Rattle.verify_rules.specs.declared.facts.Facts.{Facts}
@@ -48,7 +50,8 @@ abbrev pub AreNumbered : ℕ → List (List ℕ) → List IdentityField → Type
 AreNumbered number [] [] = ⊤
 AreNumbered number [] (field ∷ fields) = ⊥
 AreNumbered number (value ∷ values) [] = ⊥
-AreNumbered number (value ∷ values) (field ∷ fields) = (field.number ≡ number) × FieldText field.parts value × AreNumbered (suc number) values fields
+AreNumbered number (value ∷ values) (field ∷ fields) =
+    (field.number ≡ number) × FieldText field.parts value × AreNumbered (suc number) values fields
 
 -- 4: a field has the type `shaken` (RFC 8588), or none (RFC 8225)
 abbrev pub MayOriginate : IdentityField → Type 0
@@ -58,8 +61,9 @@ MayOriginate field = (field.parts.ppt ≡ Some (codes "shaken")) ⊎ (field.part
 abbrev pub IsEs256 : IdentityField → Type 0
 IsEs256 field = (field.parts.alg ≡ None) ⊎ (field.parts.alg ≡ Some (codes "ES256"))
 
--- 6: the field's text is a token (RFC 8225, sections 3 and 7), with what the message and the field give for the compact form, and header
--- and payload say this; it is what was signed as the token, and the mark is the field's number, the digest of that, and the signature
+-- 6: the field's text is a token (RFC 8225, sections 3 and 7), with what the message and the field give for the compact
+-- form, and header and payload say this; it is what was signed as the token, and the mark is the field's number, the
+-- digest of that, and the signature
 pub record IsRead (said : Facts) (field : IdentityField) (one : Reading) : Type 0 where
   pub token : TokenView
   pub text : TokenText field.parts.token (given_to_compact said field.parts) token
@@ -82,10 +86,12 @@ AreRead said (field ∷ fields) (one ∷ readings) = IsRead said field one × Ar
 abbrev pub IsFrom : Option (List ℕ) → Reading → Type 0
 IsFrom calling one = calling ≡ Some one.passport.orig
 
--- 8: the links have an order, from a number that the originating PASSporT calls to the called number (RFC 8946, section 4.2)
+-- 8: the links have an order, from a number that the originating PASSporT calls to the called number (RFC 8946, section
+-- 4.2)
 abbrev pub HasOrder : Facts → List Reading → Type 0
 HasOrder said [] = ⊤
-HasOrder said (origin ∷ others) = (turn : List ℕ) × IsOrder origin.passport (passports_of others) (called_by said others) turn
+HasOrder said (origin ∷ others) =
+    (turn : List ℕ) × IsOrder origin.passport (passports_of others) (called_by said others) turn
 
 abbrev pub CallHasOrder : Call → Type 0
 CallHasOrder call = HasOrder (facts call) (in_message call)
@@ -112,13 +118,16 @@ SpeaksOfFields call (Err Memory) = ⊤
 -- the PASSporTs that are spoken of are those of the judged fields, if they can be read
 abbrev pub SpeaksOfRead : Call → Result ScreenedView ScreenFault → Type 0
 SpeaksOfRead call (Ok screened) = AreRead (facts call) (judged_fields (fields_of call)) (in_message call)
-SpeaksOfRead call (Err (Refused refused)) = 6 < refused.rule → AreRead (facts call) (judged_fields (fields_of call)) (in_message call)
+SpeaksOfRead call (Err (Refused refused)) = 6 < refused.rule
+    → AreRead (facts call) (judged_fields (fields_of call)) (in_message call)
 SpeaksOfRead call (Err Memory) = ⊤
 
--- a screened call's PASSporTs come in the order in which it went; so do those of a call that a rule after the one on their order refuses
+-- a screened call's PASSporTs come in the order in which it went; so do those of a call that a rule after the one on
+-- their order refuses
 abbrev pub SpeaksOfOrder : Call → Result ScreenedView ScreenFault → Type 0
 SpeaksOfOrder call (Ok screened) = WentSo (facts call) (in_message call) screened.readings
-SpeaksOfOrder call (Err (Refused refused)) = 8 < refused.rule → WentSo (facts call) (in_message call) (in_call_order call)
+SpeaksOfOrder call (Err (Refused refused)) = 8 < refused.rule
+    → WentSo (facts call) (in_message call) (in_call_order call)
 SpeaksOfOrder call (Err Memory) = ⊤
 
 -- each of the nine rules

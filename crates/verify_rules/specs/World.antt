@@ -1,5 +1,6 @@
 -- The world in which a call is judged, and the first rule of all that it breaks there.
-use Rattle.std.specs.Prelude.{◌≡◌, ⊤, ◌⊎◌, ℕ, ◌<◌, ◌≤◌, nat_lt, Bool, true, false, List, [], ◌∷◌, ◌++◌, map, take, slice_index, length, Option, Some, None, option_and_then, if◌then◌else◌}
+use Rattle.std.specs.Prelude.{◌≡◌, ⊤, ◌⊎◌, ℕ, ◌<◌, ◌≤◌, nat_lt, Bool, true, false, List, [], ◌∷◌, ◌++◌, map, take}
+use Rattle.std.specs.Prelude.{slice_index, length, Option, Some, None, option_and_then, if◌then◌else◌}
 use Rattle.std.specs.List.{slice_get}
 use Rattle.stir_outside.specs.Files.{Files, file}
 use Rattle.x509_profile.specs.View.{CertView}
@@ -21,8 +22,8 @@ use Rattle.verify_rules.specs.declared.refusal.Refusal.{Refusal}
 use Rattle.verify_rules.specs.declared.verdict.Verdict.{Verdict}
 use Rattle.verify_rules.specs.declared.verdict.Verdict.TheVariants.{Passed, Refused, Unread, Unasked}
 
--- which file has the certificates of which x5u, what the files hold, the trust anchors, the numbers that each code stands for, and which
--- signatures are good
+-- which file has the certificates of which x5u, what the files hold, the trust anchors, the numbers that each code
+-- stands for, and which signatures are good
 pub record World : Type 0 where
   pub chains : Files
   pub files : Files
@@ -32,11 +33,13 @@ pub record World : Type 0 where
 
 -- the world with another provider of signatures
 abbrev pub with_says : World → Says → World
-with_says world says = record { chains = world.chains; files = world.files; anchors = world.anchors; table = world.table; says = says }
+with_says world says =
+    record { chains = world.chains; files = world.files; anchors = world.anchors; table = world.table; says = says }
 
 -- each file holds bytes
 abbrev pub HoldsBytes : World → Type 0
-HoldsBytes world = (name content : List ℕ) → file name world.files ≡ Some content → (i : ℕ) → slice_index content i < 256
+HoldsBytes world = (name content : List ℕ) → file name world.files ≡ Some content → (i : ℕ)
+    → slice_index content i < 256
 
 -- ---- what there is to know of a chain
 
@@ -44,11 +47,12 @@ HoldsBytes world = (name content : List ℕ) → file name world.files ≡ Some 
 abbrev pub content_of : World → List ℕ → Option (List ℕ)
 content_of world x5u = option_and_then (λ name. file name world.files) (listed world.chains x5u)
 
--- a chain file has at most 49,152 bytes, which is six certificates of 8,192 (this project's own rule); of one that has no more, what the
--- rules on a chain say of its bytes if every question is answered
+-- a chain file has at most 49,152 bytes, which is six certificates of 8,192 (this project's own rule); of one that has
+-- no more, what the rules on a chain say of its bytes if every question is answered
 abbrev pub truth_by : World → Option (List ℕ) → State
 truth_by world None = no_chain
-truth_by world (Some bytes) = if nat_lt 49152 (length bytes) then long else have (judged_of world.anchors world.table world.says bytes)
+truth_by world (Some bytes) = if nat_lt 49152 (length bytes) then long
+    else have (judged_of world.anchors world.table world.says bytes)
 
 unfoldable pub truth_of : World → List ℕ → State
 truth_of world x5u = truth_by world (content_of world x5u)
@@ -73,14 +77,16 @@ unfoldable pub broken_by : World → LateRule → ℕ → Reading → Option Pla
 broken_by world rule moment one = part_at one.mark.field (tell rule world.table moment one (truth_for world one))
 
 abbrev pub late_rule : World → LateRule → Rule
-late_rule world rule = record { number = number rule; broken = λ call. each (broken_by world rule call.moment) (in_call_order call) }
+late_rule world rule =
+    record { number = number rule; broken = λ call. each (broken_by world rule call.moment) (in_call_order call) }
 
 abbrev pub unless_good : ℕ → Bool → Option Place
 unless_good field true = None
 unless_good field false = Some (place field 0)
 
 abbrev pub forged_by : World → Reading → State → Option Place
-forged_by world one (have judged) = unless_good one.mark.field (is_signed_by world.says one (slice_get judged.certificates 0))
+forged_by world one (have judged) =
+    unless_good one.mark.field (is_signed_by world.says one (slice_get judged.certificates 0))
 forged_by world one no_chain = None
 forged_by world one long = None
 forged_by world one unread = None
@@ -114,7 +120,8 @@ First world call = first (early_rules ++ late_rules world) call
 
 -- ---- what is known of the chains is right
 
--- it is what there is to know, as far as the questions for signatures were answered; of an x5u whose chain isn't known a file is listed
+-- it is what there is to know, as far as the questions for signatures were answered; of an x5u whose chain isn't known
+-- a file is listed
 abbrev pub IsRight : World → List ℕ → State → Type 0
 IsRight world x5u (have judged) = (truth : JudgedView) × (truth_of world x5u ≡ have truth) × JudgedAs truth judged
 IsRight world x5u no_chain = truth_of world x5u ≡ no_chain
@@ -128,8 +135,10 @@ AreRight world [] (state ∷ states) = ⊥
 AreRight world (one ∷ others) [] = ⊥
 AreRight world (one ∷ others) (state ∷ states) = IsRight world one.passport.x5u state × AreRight world others states
 
--- The call breaks none of the rules of the call; these are its PASSporTs and its moment; and the codes and the signatures are those of the world.
-pub record IsJudgedBy (world : World) (call : Call) (table : Table) (says : Says) (moment : ℕ) (readings : List Reading) : Type 0 where
+-- The call breaks none of the rules of the call; these are its PASSporTs and its moment; and the codes and the
+-- signatures are those of the world.
+pub record IsJudgedBy (world : World) (call : Call) (table : Table) (says : Says) (moment : ℕ)
+    (readings : List Reading) : Type 0 where
   pub early : first early_rules call ≡ None
   pub in_order : readings ≡ in_call_order call
   pub now : moment ≡ call.moment
@@ -138,7 +147,8 @@ pub record IsJudgedBy (world : World) (call : Call) (table : Table) (says : Says
 
 -- ---- what sets a call aside
 
--- The rules of the call hold; the place is that of a PASSporT for whose x5u a file is listed; and rule 10 holds for each before it.
+-- The rules of the call hold; the place is that of a PASSporT for whose x5u a file is listed; and rule 10 holds for
+-- each before it.
 pub record MayBeUnread (world : World) (call : Call) (bad : Place) : Type 0 where
   pub early : HoldAll early_rules call
   pub at : ℕ
@@ -149,7 +159,8 @@ pub record MayBeUnread (world : World) (call : Call) (bad : Place) : Type 0 wher
   pub named : listed world.chains here.passport.x5u ≡ Some name
   pub before : each (broken_by world late.Listed call.moment) (take at (in_call_order call)) ≡ None
 
--- The place is that of a certificate; rule 15 holds for each PASSporT before, and for each certificate before it in its chain.
+-- The place is that of a certificate; rule 15 holds for each PASSporT before, and for each certificate before it in its
+-- chain.
 pub record IsOpenAtChain (world : World) (call : Call) (bad : Place) : Type 0 where
   pub at : ℕ
   pub here : Reading

@@ -17,8 +17,9 @@ use crate::screened::Screened;
 use stir_outside::{Failed, Provider};
 use x509_profile::Certificate;
 
-/// The first that rule 16 makes of the PASSporTs of a call; or where the provider failed, if those before it are good. The provider is asked
-/// for the signature of each, in the order in which the call went, up to the first that isn't good.
+/// The first that rule 16 makes of the PASSporTs of a call; or where the provider failed, if those before it are good.
+/// The provider is asked for the signature of each, in the order in which the call went, up to the first that isn't
+/// good.
 #[tactic(auto, using(crate::proofs::AskingSteps::asking_more, crate::proofs::AskingSteps::asking_front, crate::proofs::AskingSteps::asking_here, crate::proofs::AskingSteps::asking_open, crate::proofs::AskingSteps::asking_done))]
 pub(crate) fn ask<C: Chains, P: Provider>(
     screened: &Screened,
@@ -26,7 +27,8 @@ pub(crate) fn ask<C: Chains, P: Provider>(
     provider: &mut P,
 ) -> Result<Option<Event>, Place>
     requires one_each { length (C.states chains.now) ≡ length screened.now.readings }
-    ensures answer { IsAsked (P.says provider.old) screened.now.readings (C.states chains.now) (P.faults provider.old) (P.faults provider.new) result }
+    ensures answer { IsAsked (P.says provider.old) screened.now.readings (C.states chains.now) (P.faults provider.old)
+        (P.faults provider.new) result }
     ensures asks { P.asks provider.new ≤ P.asks provider.old + length screened.now.readings }
     ensures asks_stay { P.asks provider.old ≤ P.asks provider.new }
     ensures provider { ProviderStays P.Provider provider.old provider.new }
@@ -52,7 +54,8 @@ fn ask_at<P: Provider>(
     state: ChainState<'_>,
     provider: &mut P,
 ) -> Result<Option<Event>, Failed>
-    ensures answer { IfOk result (λ event. event ≡ at_asking (P.says provider.old) (judged_seen one.now) (seen state.entry)) }
+    ensures answer { IfOk result
+        (λ event. event ≡ at_asking (P.says provider.old) (judged_seen one.now) (seen state.entry)) }
     ensures leaf { OnErr result (HasLeaf (seen state.entry)) }
     ensures cause { HasCause (P.faults provider.old) (P.faults provider.new) result }
     ensures asks { P.asks provider.new ≤ P.asks provider.old + 1 }
@@ -90,7 +93,8 @@ fn is_signed<P: Provider>(
     leaf: Option<&Certificate>,
     provider: &mut P,
 ) -> Result<bool, Failed>
-    ensures answer { IfOk result (λ good. good ≡ is_signed_by (P.says provider.old) (judged_seen one.now) (option_copied leaf.entry)) }
+    ensures answer { IfOk result
+        (λ good. good ≡ is_signed_by (P.says provider.old) (judged_seen one.now) (option_copied leaf.entry)) }
     ensures leaf { OnErr result (IsSome (option_copied leaf.entry)) }
     ensures cause { HasCause (P.faults provider.old) (P.faults provider.new) result }
     ensures asks { P.asks provider.new ≤ P.asks provider.old + 1 }

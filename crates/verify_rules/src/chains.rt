@@ -15,8 +15,8 @@ pub enum ChainState<'a> {
     Unread,
 }
 
-/// The chains of the PASSporTs of a call that was screened, in the order in which the call went. In contracts they are the list of what is
-/// known of each.
+/// The chains of the PASSporTs of a call that was screened, in the order in which the call went. In contracts they are
+/// the list of what is known of each.
 pub trait Chains {
     ghost use Rattle.std.specs.Prelude.{◌≡◌, ◌<◌, List, length, Some};
     ghost use Rattle.std.specs.List.{slice_get};

@@ -21,8 +21,8 @@ use passport_json::{token_found_law, token_law};
 use sip_message::{Message, MessageFault, head_law};
 use std::alloc::Global;
 
-/// Tries the rules of the call (RFC 8224, section 6.2) on the bytes of a message that came at a moment, in Unix seconds. The first that is broken
-/// refuses the call; a call that breaks none is screened.
+/// Tries the rules of the call (RFC 8224, section 6.2) on the bytes of a message that came at a moment, in Unix
+/// seconds. The first that is broken refuses the call; a call that breaks none is screened.
 #[tactic(auto, using(crate::proofs::FirstLaws::least, crate::proofs::FirstLaws::first_before, crate::proofs::FreshLaws::still_fresh))]
 pub fn screen(
     alloc: Global,
@@ -43,8 +43,8 @@ pub fn screen(
     // A screened call is fresh.
     ensures fresh { IfOk result (λ screened. moment ≤ screened.last) }
 
-    // Each rule in its own words, in the grammars and claims of the message that came: it holds of a screened call; if it refuses, it
-    // doesn't hold, and those before it do.
+    // Each rule in its own words, in the grammars and claims of the message that came: it holds of a screened call; if
+    // it refuses, it doesn't hold, and those before it do.
     ensures words { SaysWords bytes.now (call_of settings.now moment bytes.now) result }
 
     // Where the rule that refuses is broken: at the first Identity field or PASSporT of which it doesn't hold.

@@ -9,7 +9,8 @@ use crate::identity_field::NumberedField;
 use sip_message::Message;
 use tn_values::{Local, Number};
 
-/// The Date of a message, in Unix seconds, the number that calls, and the numbers of To and of the request URI (RFC 8224, section 4.1).
+/// The Date of a message, in Unix seconds, the number that calls, and the numbers of To and of the request URI (RFC
+/// 8224, section 4.1).
 #[derive(Clone, Copy)]
 pub(crate) struct Facts {
     pub(crate) date: Option<u64>,
@@ -31,8 +32,8 @@ impl Facts {
         }
     }
 
-    /// What this message says, as far as the PASSporTs of the originating field and of the links among the fields ask for it: one in its full
-    /// form needs no Date.
+    /// What this message says, as far as the PASSporTs of the originating field and of the links among the fields ask
+    /// for it: one in its full form needs no Date.
     #[tactic(auto, using(crate::proofs::FactLaws::serves))]
     pub(crate) fn for_judged(
         message: &Message<'_>,
@@ -40,7 +41,8 @@ impl Facts {
         origin: &NumberedField<'_>,
         fields: &[NumberedField<'_>],
     ) -> Facts
-        ensures { Serves result (facts_of local.now message.now) (field_seen origin.now ∷ links (map field_seen fields.now)) }
+        ensures { Serves result (facts_of local.now message.now)
+            (field_seen origin.now ∷ links (map field_seen fields.now)) }
     {
         Facts::read(message, local, asks_date(origin, fields))
     }

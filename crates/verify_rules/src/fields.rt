@@ -90,7 +90,8 @@ fn foreign_link(fields: &[NumberedField<'_>]) -> Option<Place>
     None
 }
 
-/// Whether a judged field's text is a token in its compact form, which leaves its Date to the message (RFC 8225, section 7).
+/// Whether a judged field's text is a token in its compact form, which leaves its Date to the message (RFC 8225,
+/// section 7).
 pub(crate) fn asks_date(origin: &NumberedField<'_>, fields: &[NumberedField<'_>]) -> bool
     ensures { result ≡ list_any is_compact (field_seen origin.now ∷ links (map field_seen fields.now)) }
 {

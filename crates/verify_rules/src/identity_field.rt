@@ -41,7 +41,8 @@ impl Ppt {
     }
 }
 
-/// An Identity field with its number, counted from 1 in message order. What its type is, is found out once, when it is read.
+/// An Identity field with its number, counted from 1 in message order. What its type is, is found out once, when it is
+/// read.
 #[derive(Drop)]
 pub(crate) struct NumberedField<'a> {
     pub(crate) number: u32,

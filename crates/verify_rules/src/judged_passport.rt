@@ -3,7 +3,8 @@
 use crate::signed_token::SignedToken;
 use passport_claims::Passport;
 
-/// A judged PASSporT: the number of its Identity field, what it says, what was signed as it with its payload, the digest of that, and the signature.
+/// A judged PASSporT: the number of its Identity field, what it says, what was signed as it with its payload, the
+/// digest of that, and the signature.
 #[derive(Drop)]
 pub(crate) struct JudgedPassport {
     pub(crate) field: u32,

@@ -1,6 +1,7 @@
 //! The rules of the chains but 16, each asked of one PASSporT and of what is known of its chain.
 ghost use Rattle.std.specs.Prelude.{◌≡◌};
-ghost use Rattle.verify_rules.specs.Late.{by_answer, by_part, number, or_broken, tell, tell_judged, tell_long, tell_missing};
+ghost use Rattle.verify_rules.specs.Late.{by_answer, by_part, number, or_broken, tell, tell_judged, tell_long};
+ghost use Rattle.verify_rules.specs.Late.{tell_missing};
 ghost use Rattle.verify_rules.specs.Screened.{judged_seen};
 ghost use Rattle.verify_rules.specs.States.{seen};
 
@@ -27,9 +28,11 @@ pub(crate) enum LateRule {
     Authority,
     /// Rule 15: their signatures are good, as far as the provider answered (RFC 5280, section 6.1.3).
     Asked,
-    /// Rule 17: the leaf's authority covers what the PASSporT vouches for (ATIS-1000074, section 5.2.3; RFC 8946, section 4.2).
+    /// Rule 17: the leaf's authority covers what the PASSporT vouches for (ATIS-1000074, section 5.2.3; RFC 8946,
+    /// section 4.2).
     Covers,
-    /// Rule 19: the PASSporT's payload meets the constraints of each of its certificates that has some (after RFC 8226, section 8).
+    /// Rule 19: the PASSporT's payload meets the constraints of each of its certificates that has some (after RFC 8226,
+    /// section 8).
     Constraints,
 }
 

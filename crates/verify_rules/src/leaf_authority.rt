@@ -3,7 +3,8 @@ ghost use Rattle.std.specs.Prelude.{◌≡◌};
 ghost use Rattle.std.specs.List.{list_any};
 ghost use Rattle.std.specs.Option.{option_copied};
 ghost use Rattle.passport_claims.specs.Kind.{div_in, level_in};
-ghost use Rattle.verify_rules.specs.Late.{allows_code, covers_by, covers_kind, covers_leaf, is_code, is_partial, vouched};
+ghost use Rattle.verify_rules.specs.Late.{allows_code, covers_by, covers_kind, covers_leaf, is_code, is_partial};
+ghost use Rattle.verify_rules.specs.Late.{vouched};
 
 use delegation::covers;
 use passport_claims::{Attest, Passport};
@@ -11,9 +12,10 @@ use tn_auth_list::{AuthList, CodeTable, Entry};
 use tn_values::Number;
 use x509_profile::Certificate;
 
-/// Whether the leaf's authority covers what a PASSporT vouches for (ATIS-1000074, section 5.2.3; RFC 8946, section 4.2): the calling number
-/// if the PASSporT has no type or attests in full; that, or any service provider code, if it attests in part or as a gateway; and the
-/// diverted number if it is a diversion. It doesn't if there is no leaf, or this has no authority list.
+/// Whether the leaf's authority covers what a PASSporT vouches for (ATIS-1000074, section 5.2.3; RFC 8946, section
+/// 4.2): the calling number if the PASSporT has no type or attests in full; that, or any service provider code, if it
+/// attests in part or as a gateway; and the diverted number if it is a diversion. It doesn't if there is no leaf, or
+/// this has no authority list.
 pub(crate) fn covers_leaf(
     table: &CodeTable,
     passport: &Passport,
@@ -37,8 +39,9 @@ fn covers_by(table: &CodeTable, passport: &Passport, list: Option<&AuthList>) ->
     }
 }
 
-/// Whether an authority list covers what a PASSporT vouches for, as rule 17 asks of the leaf's: the calling number, or that which was diverted if
-/// it is of a diversion; or it has any service provider code, and the PASSporT attests in part or as a gateway.
+/// Whether an authority list covers what a PASSporT vouches for, as rule 17 asks of the leaf's: the calling number, or
+/// that which was diverted if it is of a diversion; or it has any service provider code, and the PASSporT attests in
+/// part or as a gateway.
 pub fn covers_passport(table: &CodeTable, list: &AuthList, passport: &Passport) -> bool
     ensures { result ≡ covers_kind table.now list.now passport.now.orig passport.now.kind }
 {

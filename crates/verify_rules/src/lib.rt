@@ -1,4 +1,5 @@
-//! The rules by which a verification service judges a call (RFC 8224, section 6.2), without replay: the rules of the call and the chains.
+//! The rules by which a verification service judges a call (RFC 8224, section 6.2), without replay: the rules of the
+//! call and the chains.
 //!
 //! # The way through
 //!
@@ -13,7 +14,8 @@
 //! ```
 //!
 //! - [`Settings`] are told once: how numbers are read, and how long a PASSporT is fresh.
-//! - A [`Refusal`] has the number of the rule and the [`Place`]: the Identity field and a part of it. [`code`] gives the response code of a rule.
+//! - A [`Refusal`] has the number of the rule and the [`Place`]: the Identity field and a part of it. [`code`] gives
+//!   the response code of a rule.
 //! - [`covers_passport`] is rule 17 by itself: whether the leaf's list covers what a PASSporT speaks for.
 //!
 //! ```rust
@@ -26,14 +28,15 @@
 //!
 //! # What it isn't
 //!
-//! Rule 18, on replay, looks at other calls: it is the work of `verify_service` and `replay_desk`. Chains are handed in, not read: `cert_store`
-//! judges them. No response is sent: a code is a number in a report.
+//! Rule 18, on replay, looks at other calls: it is the work of `verify_service` and `replay_desk`. Chains are handed
+//! in, not read: `cert_store` judges them. No response is sent: a code is a number in a report.
 //!
 //! # What is proved
 //!
-//! A call is refused exactly with the first rule that it breaks, at the first place at which it is broken; the same is said of each rule in the
-//! standard's own words, both ways. `docs/RULES.md` has the rules with their codes, places and sections, and `docs/dev/PROVED.md`, "The rules", the
-//! clauses. The laws re-exported here are what the crates above cite.
+//! A call is refused exactly with the first rule that it breaks, at the first place at which it is broken; the same is
+//! said of each rule in the standard's own words, both ways. `docs/RULES.md` has the rules with their codes, places and
+//! sections, and `docs/dev/PROVED.md`, "The rules", the clauses. The laws re-exported here are what the crates above
+//! cite.
 //!
 //! # Cases
 //!

@@ -2,8 +2,8 @@
 ghost use Rattle.verify_rules.specs.More.{LinkMore};
 ghost use Rattle.verify_rules.specs.Moved.{HoldsMoved, SaysSame};
 
-/// With another request URI a call's PASSporTs say the same, and rules 1 to 7 hold if they held before, at whichever moment and by whichever
-/// settings that number alike.
+/// With another request URI a call's PASSporTs say the same, and rules 1 to 7 hold if they held before, at whichever
+/// moment and by whichever settings that number alike.
 pub fn moved_law()
     ensures same { SaysSame }
     ensures holds { HoldsMoved }

@@ -4,8 +4,8 @@ ghost use Rattle.std.specs.Prelude.{◌≡◌, ◌≤◌, length};
 use crate::chains::{ChainState, Chains};
 use std::marker::Model;
 
-/// What is known of the chains of a call's PASSporTs, of which there are at most nine. Each rule asks for it anew, and what is asked for may
-/// take a search. In contracts it is the list of it.
+/// What is known of the chains of a call's PASSporTs, of which there are at most nine. Each rule asks for it anew, and
+/// what is asked for may take a search. In contracts it is the list of it.
 #[derive(Drop)]
 pub(crate) struct Once<'a> {
     states: [ChainState<'a>; 9],

@@ -9,7 +9,8 @@ use passport_claims::{Passport, Passports};
 use std::alloc::{AllocError, Global};
 use std::marker::Model;
 
-/// The judged PASSporTs of a call, in message order: the originating one and then the links. In contracts they are the list of these.
+/// The judged PASSporTs of a call, in message order: the originating one and then the links. In contracts they are the
+/// list of these.
 #[derive(Drop)]
 pub(crate) struct Readings {
     kept: Vec<JudgedPassport>,

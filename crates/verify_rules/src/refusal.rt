@@ -3,8 +3,8 @@ ghost use Rattle.std.specs.Prelude.{◌≡◌};
 ghost use Rattle.verify_rules.specs.Rules.{place, refusal};
 ghost use Rattle.verify_rules.specs.declared.refusal.ScreenFault.{ScreenFault};
 
-/// Where a call breaks a rule: the Identity field, counted from 1 in message order, and a part of it whose meaning the rule gives. Each
-/// is 0 if none is meant. It is printed `field.part`.
+/// Where a call breaks a rule: the Identity field, counted from 1 in message order, and a part of it whose meaning the
+/// rule gives. Each is 0 if none is meant. It is printed `field.part`.
 #[derive(Clone, Copy, Debug, PartialEq, Eq, Default)]
 pub struct Place {
     pub field: u32,

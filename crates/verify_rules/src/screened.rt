@@ -5,7 +5,8 @@ ghost use Rattle.std.specs.Option.{option_map};
 ghost use Rattle.serde_json.specs.View.{view};
 ghost use Rattle.verify_rules.specs.Call.{in_turn, passport_in, payload_of, reading};
 ghost use Rattle.verify_rules.specs.Rules.{each, stale};
-ghost use Rattle.verify_rules.specs.Screened.{IsTurned, digest_in, field_in, iat_or_none, judged_seen, last_of, screened_by, signature_in};
+ghost use Rattle.verify_rules.specs.Screened.{IsTurned, digest_in, field_in, iat_or_none, judged_seen, last_of};
+ghost use Rattle.verify_rules.specs.Screened.{screened_by, signature_in};
 
 use crate::judged_passport::JudgedPassport;
 use crate::readings::Readings;
@@ -15,8 +16,9 @@ use passport_claims::{Order, Passport};
 use serde_json::Value;
 use std::marker::Model;
 
-/// A call that breaks none of the rules of the call: its judged PASSporTs in the order in which the call went, the originating one first,
-/// and the last second at which the last of them is fresh. In contracts it is the record of these two.
+/// A call that breaks none of the rules of the call: its judged PASSporTs in the order in which the call went, the
+/// originating one first, and the last second at which the last of them is fresh. In contracts it is the record of
+/// these two.
 #[derive(Drop)]
 pub struct Screened {
     readings: Readings,
@@ -115,7 +117,8 @@ impl Screened {
         self.digest(count - 1)
     }
 
-    /// The last second at which the call is fresh: the iat of its last PASSporT plus `past` of the settings, in Unix time.
+    /// The last second at which the call is fresh: the iat of its last PASSporT plus `past` of the settings, in Unix
+    /// time.
     pub fn last(&self) -> u64
         ensures { result ≡ self.now.last }
     {

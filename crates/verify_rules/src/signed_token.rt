@@ -7,8 +7,8 @@ use passport_json::Token;
 use serde_json::Value;
 use std::marker::Model;
 
-/// What was signed as a token, and its payload (RFC 7515, section 2). In contracts it is what was signed. The rest of the token isn't kept: a round keeps
-/// this for each call.
+/// What was signed as a token, and its payload (RFC 7515, section 2). In contracts it is what was signed. The rest of
+/// the token isn't kept: a round keeps this for each call.
 #[derive(Drop)]
 pub(crate) struct SignedToken {
     signing: Vec<u8>,

@@ -10,8 +10,8 @@ use cert_store::Judged;
 use claim_constraints::Constraints;
 use serde_json::Value;
 
-/// The number of the first certificate of a chain whose constraints the payload of the PASSporT doesn't meet; the leaf's is 1 (after RFC
-/// 8226, section 8; this project's own rule).
+/// The number of the first certificate of a chain whose constraints the payload of the PASSporT doesn't meet; the
+/// leaf's is 1 (after RFC 8226, section 8; this project's own rule).
 #[tactic(auto, using(crate::proofs::UnmetSteps::unmet_more, crate::proofs::UnmetSteps::unmet_here, crate::proofs::UnmetSteps::unmet_done))]
 pub(crate) fn first_unmet(judged: &Judged, signed: &SignedToken) -> Option<u8>
     ensures { result ≡ first_unmet (payload_in signed.now) 1 judged.now.certificates }

@@ -29,8 +29,8 @@ pub enum Verdict {
     Refused(Refusal),
     /// The chain of the PASSporT there isn't known, and rule 10 holds for those before it.
     Unread(Place),
-    /// The provider failed at a signature, and the rules up to it hold. It is that of the certificate of this part, when the chain was judged; or, if
-    /// the part is 0, that of the PASSporT, in this call.
+    /// The provider failed at a signature, and the rules up to it hold. It is that of the certificate of this part,
+    /// when the chain was judged; or, if the part is 0, that of the PASSporT, in this call.
     Unasked(Place),
 }
 
@@ -47,12 +47,13 @@ const BEFORE: [LateRule; 6] = [
 /// Those that are tried after them.
 const AFTER: [LateRule; 2] = [LateRule::Covers, LateRule::Constraints];
 
-/// Tries the rules of the chains (RFC 8224, section 6.2) on a call that was screened and came at this moment, in Unix seconds. It judges by what is
-/// known of the chains of the call's PASSporTs: one state for each, in the order in which the call went.
+/// Tries the rules of the chains (RFC 8224, section 6.2) on a call that was screened and came at this moment, in Unix
+/// seconds. It judges by what is known of the chains of the call's PASSporTs: one state for each, in the order in which
+/// the call went.
 ///
-/// The provider is asked for the signatures of the PASSporTs alone (rule 16), and only if rules 10 to 15 hold; what it says of the certificates' is in
-/// the chains. The first rule that is broken refuses the call, unless a chain that isn't known or a signature at which the provider failed comes before
-/// it.
+/// The provider is asked for the signatures of the PASSporTs alone (rule 16), and only if rules 10 to 15 hold; what it
+/// says of the certificates' is in the chains. The first rule that is broken refuses the call, unless a chain that
+/// isn't known or a signature at which the provider failed comes before it.
 #[tactic(auto, using(crate::proofs::VerdictLaws::quiet, crate::proofs::CauseLaws::caused))]
 pub fn finish<C: Chains, P: Provider>(
     screened: &Screened,
@@ -64,27 +65,34 @@ pub fn finish<C: Chains, P: Provider>(
     requires one_each { length (C.states chains.now) ≡ length screened.now.readings }
 
     // What the rules give first, over the chains that are handed in.
-    ensures verdict { IsVerdict (P.says provider.old) table.now moment screened.now.readings (C.states chains.now) (P.faults provider.old) (P.faults provider.new) result }
+    ensures verdict { IsVerdict (P.says provider.old) table.now moment screened.now.readings (C.states chains.now)
+        (P.faults provider.old) (P.faults provider.new) result }
 
-    // If the chains are right in a world that judges the call, so is the verdict: it is the first broken rule of all, or the call may be set aside.
-    ensures right { (world : World) (call : Call) → IsJudgedBy world call table.now (P.says provider.old) moment screened.now.readings
+    // If the chains are right in a world that judges the call, so is the verdict: it is the first broken rule of all,
+    // or the call may be set aside.
+    ensures right { (world : World) (call : Call)
+        → IsJudgedBy world call table.now (P.says provider.old) moment screened.now.readings
         → AreRight world screened.now.readings (C.states chains.now) → VerdictOf world call result }
 
-    // Each of the rules of the chains in its own words, if the files of that world hold bytes: it holds of a call that passes; if it refuses, it
-    // doesn't hold, and those before it do.
-    ensures words { (world : World) (call : Call) → HoldsBytes world → IsJudgedBy world call table.now (P.says provider.old) moment screened.now.readings
+    // Each of the rules of the chains in its own words, if the files of that world hold bytes: it holds of a call that
+    // passes; if it refuses, it doesn't hold, and those before it do.
+    ensures words { (world : World) (call : Call) → HoldsBytes world
+        → IsJudgedBy world call table.now (P.says provider.old) moment screened.now.readings
         → AreRight world screened.now.readings (C.states chains.now) → SaysLateWords world call result }
 
-    // Where the rule that refuses is broken there: at the first PASSporT, and in it at the first certificate, of which it doesn't
-    // hold; and what holds before the place at which the call is set aside.
-    ensures places { (world : World) (call : Call) → HoldsBytes world → IsJudgedBy world call table.now (P.says provider.old) moment screened.now.readings
+    // Where the rule that refuses is broken there: at the first PASSporT, and in it at the first certificate, of which
+    // it doesn't hold; and what holds before the place at which the call is set aside.
+    ensures places { (world : World) (call : Call) → HoldsBytes world
+        → IsJudgedBy world call table.now (P.says provider.old) moment screened.now.readings
         → AreRight world screened.now.readings (C.states chains.now) → SpeaksOfLatePlace world call result }
 
     // An answer is left open by a chain that was handed in, or by a question that failed in this call.
-    ensures causes { IsCaused screened.now.readings (C.states chains.now) (P.faults provider.old) (P.faults provider.new) result }
+    ensures causes { IsCaused screened.now.readings (C.states chains.now) (P.faults provider.old)
+        (P.faults provider.new) result }
 
     // If no fault was counted, only a chain that is handed in leaves an answer open.
-    ensures quiet { QuietIs screened.now.readings (C.states chains.now) (P.faults provider.old) (P.faults provider.new) result }
+    ensures quiet { QuietIs screened.now.readings (C.states chains.now) (P.faults provider.old)
+        (P.faults provider.new) result }
 
     // How often the provider was asked, and what that changed of it.
     ensures asks { P.asks provider.new ≤ P.asks provider.old + length screened.now.readings }
@@ -110,7 +118,8 @@ fn finish_exactly<P: Provider>(
     provider: &mut P,
 ) -> Verdict
     requires one_each { length chains.now ≡ length screened.now.readings }
-    ensures verdict { IsVerdict (P.says provider.old) table.now moment screened.now.readings chains.now (P.faults provider.old) (P.faults provider.new) result }
+    ensures verdict { IsVerdict (P.says provider.old) table.now moment screened.now.readings chains.now
+        (P.faults provider.old) (P.faults provider.new) result }
     ensures asks { P.asks provider.new ≤ P.asks provider.old + length screened.now.readings }
     ensures asks_stay { P.asks provider.old ≤ P.asks provider.new }
     ensures provider { ProviderStays P.Provider provider.old provider.new }

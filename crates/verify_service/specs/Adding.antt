@@ -28,9 +28,12 @@ kept_as call = record { call = call.number; last = last_in call.screening }
 
 -- The rules of the call refuse no valid call, the past hasn't its ticket, and no two valid calls have one.
 pub record IsOnceValid (past : PastView) (calls : List ReadyCall) (outs : List Outcome) : Type 0 where
-  pub passed : (at : ℕ) (call : ReadyCall) → slice_get calls at ≡ Some call → out_at outs at ≡ Valid → is_passed call.screening ≡ true
-  pub free : (at : ℕ) (call : ReadyCall) → slice_get calls at ≡ Some call → out_at outs at ≡ Valid → found past (ticket_in call.screening) ≡ None
-  pub once : (at other : ℕ) (call second : ReadyCall) → slice_get calls at ≡ Some call → slice_get calls other ≡ Some second → out_at outs at ≡ Valid → out_at outs other ≡ Valid
+  pub passed : (at : ℕ) (call : ReadyCall) → slice_get calls at ≡ Some call → out_at outs at ≡ Valid
+      → is_passed call.screening ≡ true
+  pub free : (at : ℕ) (call : ReadyCall) → slice_get calls at ≡ Some call → out_at outs at ≡ Valid
+      → found past (ticket_in call.screening) ≡ None
+  pub once : (at other : ℕ) (call second : ReadyCall) → slice_get calls at ≡ Some call
+      → slice_get calls other ≡ Some second → out_at outs at ≡ Valid → out_at outs other ≡ Valid
       → ticket_in call.screening ≡ ticket_in second.screening → at ≡ other
 
 -- This call is kept, and what was kept for other tickets stays.
@@ -48,12 +51,14 @@ AddsOne call (Unasked bad) past next = next ≡ past
 
 -- The valid calls below an index are kept, and what was kept for other tickets stays.
 pub record AddedUpto (past next : PastView) (calls : List ReadyCall) (outs : List Outcome) (upto : ℕ) : Type 0 where
-  pub valid : (at : ℕ) (call : ReadyCall) → slice_get calls at ≡ Some call → at < upto → out_at outs at ≡ Valid → found next (ticket_in call.screening) ≡ Some (kept_as call)
-  pub others : (ticket : List ℕ) → ((at : ℕ) (call : ReadyCall) → slice_get calls at ≡ Some call → at < upto → out_at outs at ≡ Valid → ticket_in call.screening ≢ ticket)
-      → found next ticket ≡ found past ticket
+  pub valid : (at : ℕ) (call : ReadyCall) → slice_get calls at ≡ Some call → at < upto → out_at outs at ≡ Valid
+      → found next (ticket_in call.screening) ≡ Some (kept_as call)
+  pub others : (ticket : List ℕ) → ((at : ℕ) (call : ReadyCall) → slice_get calls at ≡ Some call → at < upto
+      → out_at outs at ≡ Valid → ticket_in call.screening ≢ ticket) → found next ticket ≡ found past ticket
 
 -- All valid calls are kept, and what was kept for other tickets stays.
 pub record IsAdded (past next : PastView) (calls : List ReadyCall) (outs : List Outcome) : Type 0 where
-  pub valid : (at : ℕ) (call : ReadyCall) → slice_get calls at ≡ Some call → out_at outs at ≡ Valid → found next (ticket_in call.screening) ≡ Some (kept_as call)
-  pub others : (ticket : List ℕ) → ((at : ℕ) (call : ReadyCall) → slice_get calls at ≡ Some call → out_at outs at ≡ Valid → ticket_in call.screening ≢ ticket)
-      → found next ticket ≡ found past ticket
+  pub valid : (at : ℕ) (call : ReadyCall) → slice_get calls at ≡ Some call → out_at outs at ≡ Valid
+      → found next (ticket_in call.screening) ≡ Some (kept_as call)
+  pub others : (ticket : List ℕ) → ((at : ℕ) (call : ReadyCall) → slice_get calls at ≡ Some call
+      → out_at outs at ≡ Valid → ticket_in call.screening ≢ ticket) → found next ticket ≡ found past ticket

@@ -8,7 +8,8 @@ use Rattle.verify_service.specs.Kept.{Kept, states_for}
 use Rattle.verify_service.specs.declared.outcome.Outcome.{Outcome}
 use Rattle.verify_service.specs.declared.outcome.Outcome.TheVariants.{Valid, Refused, Replay, Unread, Unasked}
 
--- for a chain that isn't known; for a chain with a question that failed; or for the signature of a PASSporT of its own, whose part is 0
+-- for a chain that isn't known; for a chain with a question that failed; or for the signature of a PASSporT of its own,
+-- whose part is 0
 abbrev pub IsAsideFor : List Reading → Kept → Chains → Outcome → Type 0
 IsAsideFor readings kept held Valid = ⊤
 IsAsideFor readings kept held (Refused refused) = ⊤

@@ -38,7 +38,8 @@ with_unread call (Unasked bad) texts = texts
 abbrev pub unread_texts : Settings → List Entry → List Outcome → List (List ℕ)
 unread_texts settings [] outcomes = []
 unread_texts settings (entry ∷ entries) [] = []
-unread_texts settings (entry ∷ entries) (outcome ∷ outcomes) = with_unread (call_in settings entry) outcome (unread_texts settings entries outcomes)
+unread_texts settings (entry ∷ entries) (outcome ∷ outcomes) =
+    with_unread (call_in settings entry) outcome (unread_texts settings entries outcomes)
 
 -- the place is that of a PASSporT's own signature, and not of a certificate's
 abbrev pub is_passport : Place → Bool
@@ -55,7 +56,8 @@ with_unasked call (Unasked bad) texts = if is_passport bad then texts else joine
 abbrev pub unasked_texts : Settings → List Entry → List Outcome → List (List ℕ)
 unasked_texts settings [] outcomes = []
 unasked_texts settings (entry ∷ entries) [] = []
-unasked_texts settings (entry ∷ entries) (outcome ∷ outcomes) = with_unasked (call_in settings entry) outcome (unasked_texts settings entries outcomes)
+unasked_texts settings (entry ∷ entries) (outcome ∷ outcomes) =
+    with_unasked (call_in settings entry) outcome (unasked_texts settings entries outcomes)
 
 -- the signature of a PASSporT of the call is left open
 abbrev pub is_unasked_passport : Outcome → Bool
@@ -69,13 +71,15 @@ is_unasked_passport (Unasked bad) = is_passport bad
 
 -- the x5u texts at which a call is unread are at most as many as faults of the shelf were counted
 abbrev pub UnreadIsCounted : Settings → List Entry → ℕ → ℕ → List Outcome → Type 0
-UnreadIsCounted settings entries faults faults_now outcomes = AtMost (length (unread_texts settings entries outcomes)) faults faults_now
+UnreadIsCounted settings entries faults faults_now outcomes =
+    AtMost (length (unread_texts settings entries outcomes)) faults faults_now
 
--- At most as many as faults of a worker's provider were counted, together: its x5u texts at which the signature of a certificate is left open, and its
--- calls in which that of a PASSporT is. `own` is what came of its calls.
+-- At most as many as faults of a worker's provider were counted, together: its x5u texts at which the signature of a
+-- certificate is left open, and its calls in which that of a PASSporT is. `own` is what came of its calls.
 abbrev pub UnaskedIsCounted : Settings → List Entry → List (List ℕ) → List Outcome → ℕ → ℕ → List Outcome → Type 0
 UnaskedIsCounted settings entries texts own faults faults_now outcomes =
-    AtMost (length (filter (λ x5u. has x5u texts) (unasked_texts settings entries outcomes)) + length (filter is_unasked_passport own)) faults faults_now
+    AtMost (length (filter (λ x5u. has x5u texts) (unasked_texts settings entries outcomes))
+    + length (filter is_unasked_passport own)) faults faults_now
 
 -- ---- none
 

@@ -36,8 +36,8 @@ verdict_of (outcomes.Unasked bad) = verdicts.Unasked bad
 
 -- it is what the rules of the chains give first of these PASSporTs, over the chains that the round has
 abbrev pub IsLateAnswer : Basis → Provided → ℕ → List Reading → Outcome → Type 0
-IsLateAnswer on by moment readings outcome =
-    IsVerdict by.says on.materials.table moment readings (states_for on.kept on.held readings) by.faults by.faults_now (verdict_of outcome)
+IsLateAnswer on by moment readings outcome = IsVerdict by.says on.materials.table moment readings
+    (states_for on.kept on.held readings) by.faults by.faults_now (verdict_of outcome)
 
 -- the refusal by the rules of the call, and else what the rules of the chains give first
 abbrev pub IsRuled : Basis → Provided → ℕ → Screening → Outcome → Type 0
@@ -45,9 +45,9 @@ IsRuled on by moment screenings.Open outcome = ⊤
 IsRuled on by moment (screenings.Refused refused) outcome = outcome ≡ outcomes.Refused refused
 IsRuled on by moment (screenings.Passed screened) outcome = IsLateAnswer on by moment screened.readings outcome
 
--- What is answered to a call that was screened so is what the rules say of it over the chains that the round has; and it is what they say of it over
--- any files for which these chains are right. A call that passes is known again by what was signed. It is set aside only for what is known of its
--- chains, or for its own signature.
+-- What is answered to a call that was screened so is what the rules say of it over the chains that the round has; and
+-- it is what they say of it over any files for which these chains are right. A call that passes is known again by what
+-- was signed. It is set aside only for what is known of its chains, or for its own signature.
 pub record OutcomeSays (on : Basis) (by : Provided) (call : ReadyCall) (outcome : Outcome) : Type 0 where
   pub ruled : IsRuled on by call.moment call.screening outcome
   pub judged : (seen : Call) → IsScreening seen call.screening → call.moment ≡ seen.moment → (told : Option Files)
@@ -57,10 +57,12 @@ pub record OutcomeSays (on : Basis) (by : Provided) (call : ReadyCall) (outcome 
   pub aside : IsAsideFor (readings_in call.screening) on.kept on.held outcome
 
 -- The same of one that the rules of the call don't refuse.
-pub record IsAnswer (on : Basis) (by : Provided) (moment : ℕ) (screened : ScreenedView) (outcome : Outcome) : Type 0 where
+pub record IsAnswer (on : Basis) (by : Provided) (moment : ℕ) (screened : ScreenedView)
+    (outcome : Outcome) : Type 0 where
   pub ruled : IsLateAnswer on by moment screened.readings outcome
-  pub judged : (seen : Call) → IsScreenedBy early_rules seen (Ok screened) → moment ≡ seen.moment → (told : Option Files)
-      → AreRightHeld told on.materials by.says on.held on.kept → IsJudgedWhere told on.materials by.says seen outcome
+  pub judged : (seen : Call) → IsScreenedBy early_rules seen (Ok screened) → moment ≡ seen.moment
+      → (told : Option Files) → AreRightHeld told on.materials by.says on.held on.kept
+      → IsJudgedWhere told on.materials by.says seen outcome
   pub owed : (seen : Call) → IsScreenedBy early_rules seen (Ok screened) → passes outcome ≡ true → IsKnownAgain seen
   pub aside : IsAsideFor screened.readings on.kept on.held outcome
 
@@ -88,8 +90,8 @@ IsClaim class number old new (outcomes.Refused refused) = ⊥
 IsClaim class number old new (outcomes.Unread bad) = ⊥
 IsClaim class number old new (outcomes.Unasked bad) = ⊥
 
--- A valid call has a ticket that the past hasn't, and its seat gained the win. A replay is one of a call of the past; or the past hasn't its ticket,
--- and its seat gained the loss. At any other answer the seat gains nothing.
+-- A valid call has a ticket that the past hasn't, and its seat gained the win. A replay is one of a call of the past;
+-- or the past hasn't its ticket, and its seat gained the loss. At any other answer the seat gains nothing.
 abbrev pub ClaimsAt : PastView → List ℕ → ℕ → ℕ → Holder → Holder → Outcome → Type 0
 ClaimsAt past ticket class number old new outcomes.Valid = (found past ticket ≡ None) × (new ≡ gained class number old)
 ClaimsAt past ticket class number old new (outcomes.Replay winner) =

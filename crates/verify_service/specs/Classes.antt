@@ -1,4 +1,5 @@
--- The classes of a round: one for each ticket, counted from 0 in the order in which the tickets first appear (this project's own rule).
+-- The classes of a round: one for each ticket, counted from 0 in the order in which the tickets first appear (this
+-- project's own rule).
 use Rattle.std.specs.Prelude.{◌≡◌, ◌<◌, ◌≤◌, ℕ, true, List, [], ◌∷◌, length, get_or, is_some, Some}
 use Rattle.std.specs.List.{slice_get}
 use Rattle.cert_store.specs.Using.{IsOnce}
@@ -13,8 +14,8 @@ tickets_in Open = []
 tickets_in (Refused refused) = []
 tickets_in (Passed screened) = ticket_by screened.readings ∷ []
 
--- The call is given the class of its ticket, which is the index of this among the tickets, if the rules of the call don't refuse it; all else of it
--- stays.
+-- The call is given the class of its ticket, which is the index of this among the tickets, if the rules of the call
+-- don't refuse it; all else of it stays.
 pub record IsGivenClass (tickets : List (List ℕ)) (old new : ReadyCall) : Type 0 where
   pub number : new.number ≡ old.number
   pub moment : new.moment ≡ old.moment
@@ -24,7 +25,8 @@ pub record IsGivenClass (tickets : List (List ℕ)) (old new : ReadyCall) : Type
 
 -- the ticket is that of one of the first calls, if the rules of the call don't refuse it
 abbrev pub IsTicketOf : ℕ → List ReadyCall → List ℕ → Type 0
-IsTicketOf count calls ticket = (at : ℕ) × (at < count) × ((d : ReadyCall) → (is_passed (get_or calls at d).screening ≡ true) × (ticket_in (get_or calls at d).screening ≡ ticket))
+IsTicketOf count calls ticket = (at : ℕ) × (at < count) × ((d : ReadyCall)
+    → (is_passed (get_or calls at d).screening ≡ true) × (ticket_in (get_or calls at d).screening ≡ ticket))
 
 -- Each call is given its class, of so many, and each of these is given to some call.
 pub record AreGivenClasses (count : ℕ) (old new : List ReadyCall) : Type 0 where

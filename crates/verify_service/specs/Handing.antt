@@ -15,7 +15,8 @@ abbrev pub kept_by : List Passed → Held
 kept_by entries ticket = option_map kept_of_past (lookup (bytes_eq ticket) entries)
 
 -- A service that was told this, and goes on from this state.
-pub record IsRestored (settings : Settings) (materials : Materials) (state : StateView) (service : ServiceView) : Type 0 where
+pub record IsRestored (settings : Settings) (materials : Materials) (state : StateView)
+    (service : ServiceView) : Type 0 where
   pub settings_are : service.settings ≡ settings
   pub chains : service.chains ≡ materials.chains
   pub anchors : service.anchors ≡ materials.anchors
@@ -26,7 +27,8 @@ pub record IsRestored (settings : Settings) (materials : Materials) (state : Sta
   pub number : service.number ≡ state.call
   pub moment : service.moment ≡ state.moment
 
--- What a service hands on: by what window it judges, its last call, and what a purge by the moment of that call leaves of its past.
+-- What a service hands on: by what window it judges, its last call, and what a purge by the moment of that call leaves
+-- of its past.
 pub record IsStateOf (service : ServiceView) (state : StateView) : Type 0 where
   pub window : state.window ≡ service.settings.past
   pub call : state.call ≡ service.number

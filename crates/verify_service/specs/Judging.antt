@@ -20,7 +20,8 @@ call_in settings entry = call_of settings entry.moment entry.message
 
 -- ---- what the rules but the one on replay say of a call, in a world
 
--- a call that isn't set aside is refused by the first rule that it breaks, and else valid or a replay; and it is set aside only if it may be
+-- a call that isn't set aside is refused by the first rule that it breaks, and else valid or a replay; and it is set
+-- aside only if it may be
 abbrev pub IsJudged : World → Call → Outcome → Type 0
 IsJudged world call Valid = First world call ≡ None
 IsJudged world call (Refused refused) = First world call ≡ Some refused
@@ -60,19 +61,22 @@ EachPair R (a ∷ others) (b ∷ bs) = R a b × EachPair R others bs
 
 -- each call of a round is judged so
 abbrev pub EachJudged : Settings → World → List Entry → List Outcome → Type 0
-EachJudged settings world entries outcomes = EachPair (λ entry outcome. IsJudged world (call_in settings entry) outcome) entries outcomes
+EachJudged settings world entries outcomes =
+    EachPair (λ entry outcome. IsJudged world (call_in settings entry) outcome) entries outcomes
 
 -- the same of each by itself, over the files that a shelf tells
 abbrev pub EachFoundWhere : Option Files → Materials → Says → Settings → List Entry → List Finding → Type 0
 EachFoundWhere None materials says settings entries findings = ⊤
-EachFoundWhere (Some files) materials says settings entries findings =
-    EachPair (λ entry finding. IsFound (world_by materials files says) (call_in settings entry) finding) entries findings
+EachFoundWhere (Some files) materials says settings entries findings = EachPair (λ entry finding.
+    IsFound (world_by materials files says) (call_in settings entry) finding) entries findings
 
 abbrev pub EachHasTicket : Settings → List Entry → List Finding → Type 0
-EachHasTicket settings entries findings = EachPair (λ entry finding. HasTicket (call_in settings entry) finding) entries findings
+EachHasTicket settings entries findings =
+    EachPair (λ entry finding. HasTicket (call_in settings entry) finding) entries findings
 
 abbrev pub EachHasSigned : Settings → List Entry → List Finding → Type 0
-EachHasSigned settings entries findings = EachPair (λ entry finding. HasSigned (call_in settings entry) finding) entries findings
+EachHasSigned settings entries findings =
+    EachPair (λ entry finding. HasSigned (call_in settings entry) finding) entries findings
 
 abbrev pub EachComesOf : List Finding → List Outcome → Type 0
 EachComesOf findings outcomes = EachPair ComesOf findings outcomes

@@ -29,7 +29,8 @@ IsKeptState found kept = option_map (λ one. state_of one.now) found ≡ kept
 
 -- this is known of the chain of this x5u, and of the others what was
 abbrev pub Keeps : List ℕ → State → Kept → Kept → Type 0
-Keeps x5u state kept now = (other : List ℕ) → kept_state other now ≡ (if bytes_eq x5u other then Some state else kept_state other kept)
+Keeps x5u state kept now = (other : List ℕ)
+    → kept_state other now ≡ (if bytes_eq x5u other then Some state else kept_state other kept)
 
 -- ---- what a call takes from both
 
@@ -68,7 +69,8 @@ StoresJudged false x5u judged held now kept kept_now = HoldsChain x5u judged hel
 
 -- the cache holds a chain of which each question was answered, and the round keeps any other
 abbrev pub StoresChain : List ℕ → State → Holding → Holding → Kept → Kept → Type 0
-StoresChain x5u (have judged) held now kept kept_now = StoresJudged (is_failed judged.asked) x5u judged held now kept kept_now
+StoresChain x5u (have judged) held now kept kept_now =
+    StoresJudged (is_failed judged.asked) x5u judged held now kept kept_now
 StoresChain x5u no_chain held now kept kept_now = KeepsChain x5u no_chain held now kept kept_now
 StoresChain x5u long held now kept kept_now = KeepsChain x5u long held now kept kept_now
 StoresChain x5u unread held now kept kept_now = KeepsChain x5u unread held now kept kept_now

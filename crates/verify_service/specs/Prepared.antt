@@ -13,8 +13,8 @@ use Rattle.verify_service.specs.Screening.{IsReady, is_open}
 use Rattle.verify_service.specs.Service.{ServiceView, materials_of}
 use Rattle.verify_service.specs.declared.screening.ReadyCall.{ReadyCall}
 
--- its calls, with what the rules of the call say of each; the chains that it keeps beside those that the service holds; its desk; and those of its
--- seats that weren't taken out
+-- its calls, with what the rules of the call say of each; the chains that it keeps beside those that the service holds;
+-- its desk; and those of its seats that weren't taken out
 pub record PreparedView : Type 0 where
   pub calls : List ReadyCall
   pub kept : Kept
@@ -34,11 +34,13 @@ IsClass classes class = (at : ℕ) × (slice_get classes at ≡ Some (Some class
 -- The desk has one word for each class, and one if there is no class.
 pub record HasWords (desk : DeskId) (classes : List (Option ℕ)) : Type 0 where
   pub each : (class : ℕ) → IsClass classes class → class < desk.words
-  pub no_more : (class : ℕ) → class < desk.words → IsClass classes class ⊎ ((desk.words ≡ 1) × ((other : ℕ) → IsClass classes other → ⊥))
+  pub no_more : (class : ℕ) → class < desk.words
+      → IsClass classes class ⊎ ((desk.words ≡ 1) × ((other : ℕ) → IsClass classes other → ⊥))
 
 -- ---- what holds of each
 
--- A call that was screened has a class of this desk exactly if the rules of the call don't refuse it. Its number leaves room for one more.
+-- A call that was screened has a class of this desk exactly if the rules of the call don't refuse it. Its number leaves
+-- room for one more.
 pub record HasClass (desk : DeskId) (call : ReadyCall) : Type 0 where
   pub known : is_open call.screening ≡ false
   pub classed : is_some call.class ≡ is_passed call.screening
@@ -70,17 +72,20 @@ pub record IsPrepared (calls : List ReadyCall) (kept : Kept) (desk : DeskId) (se
 
 -- each has a number from 1 up to this one
 abbrev pub AreUpTo : ℕ → List ReadyCall → Type 0
-AreUpTo number calls = (at : ℕ) (call : ReadyCall) → slice_get calls at ≡ Some call → (1 ≤ call.number) × (call.number ≤ number)
+AreUpTo number calls = (at : ℕ) (call : ReadyCall) → slice_get calls at ≡ Some call
+    → (1 ≤ call.number) × (call.number ≤ number)
 
--- They are calls of a log, screened by these settings, and this is the number of the last, up to which those before it go.
+-- They are calls of a log, screened by these settings, and this is the number of the last, up to which those before it
+-- go.
 pub record AreScreened (settings : Settings) (number : ℕ) (calls : List ReadyCall) : Type 0 where
   pub entries : List Entry
   pub screened : EachPair (IsReady settings) entries calls
   pub last : slice_get (numbers_of calls) (length calls - 1) ≡ Some number
   pub upto : AreUpTo number calls
 
--- Its calls were screened by the service's settings, and the last one's number is the service's; each chain that they need is held by the service
--- or kept by the round; the past has room for as many calls as there are classes; and the state wasn't taken since a round was prepared.
+-- Its calls were screened by the service's settings, and the last one's number is the service's; each chain that they
+-- need is held by the service or kept by the round; the past has room for as many calls as there are classes; and the
+-- state wasn't taken since a round was prepared.
 pub record IsNewest (service : ServiceView) (prepared : PreparedView) : Type 0 where
   pub calls : AreScreened service.settings service.number prepared.calls
   pub there : AreThere service.chains service.held.entries prepared.kept (all_named prepared.calls)
@@ -89,4 +94,5 @@ pub record IsNewest (service : ServiceView) (prepared : PreparedView) : Type 0 w
 
 -- what its calls are judged on
 abbrev pub basis_in : ServiceView → PreparedView → Basis
-basis_in service prepared = record { materials = materials_of service; held = service.held.entries; kept = prepared.kept; past = service.past }
+basis_in service prepared =
+    record { materials = materials_of service; held = service.held.entries; kept = prepared.kept; past = service.past }

@@ -1,6 +1,7 @@
--- A round whose calls are ready to be judged: what they are judged on, and what holds of them and of the seats of its desk (this project's
--- own rule).
-use Rattle.std.specs.Prelude.{◌≡◌, ℕ, ◌+◌, ◌<◌, ◌≤◌, Bool, true, false, List, [], ◌∷◌, is_some, unwrap_or, Option, Some, None}
+-- A round whose calls are ready to be judged: what they are judged on, and what holds of them and of the seats of its
+-- desk (this project's own rule).
+use Rattle.std.specs.Prelude.{◌≡◌, ℕ, ◌+◌, ◌<◌, ◌≤◌, Bool, true, false, List, [], ◌∷◌, is_some, unwrap_or, Option, Some}
+use Rattle.std.specs.Prelude.{None}
 use Rattle.std.specs.List.{slice_get}
 use Rattle.std.specs.Option.{option_map}
 use Rattle.cert_store.specs.Holding.{Chains}
@@ -23,7 +24,8 @@ use Rattle.verify_service.specs.declared.screening.Screening.TheVariants.{Open, 
 
 -- ---- what calls are judged on
 
--- the chain map, the anchors and the code table; the chains that the service holds and those that the round keeps; and the calls that passed
+-- the chain map, the anchors and the code table; the chains that the service holds and those that the round keeps; and
+-- the calls that passed
 pub record Basis : Type 0 where
   pub materials : Materials
   pub held : Chains
@@ -31,9 +33,11 @@ pub record Basis : Type 0 where
   pub past : PastView
 
 abbrev pub basis_of : Lent → Basis
-basis_of lent = record { materials = lent.materials.now; held = lent.cache.now.entries; kept = lent.kept.now; past = lent.past.now }
+basis_of lent =
+    record { materials = lent.materials.now; held = lent.cache.now.entries; kept = lent.kept.now; past = lent.past.now }
 
--- what a provider of signatures says, how often it was asked, and how often it failed, before and after calls were judged
+-- what a provider of signatures says, how often it was asked, and how often it failed, before and after calls were
+-- judged
 pub record Provided : Type 0 where
   pub says : Says
   pub asks : ℕ
@@ -71,8 +75,8 @@ class_in call = unwrap_or call.class 0
 
 -- ---- a call that is ready
 
--- It was screened. It has a class exactly if the rules of the call don't refuse it, and one of this desk. Its number leaves room for one more. And
--- each of its chains is held or kept, if a file is listed for it.
+-- It was screened. It has a class exactly if the rules of the call don't refuse it, and one of this desk. Its number
+-- leaves room for one more. And each of its chains is held or kept, if a file is listed for it.
 pub record CallReady (on : Basis) (desk : DeskId) (call : ReadyCall) : Type 0 where
   pub known : is_open call.screening ≡ false
   pub classed : is_some call.class ≡ is_passed call.screening
@@ -85,19 +89,24 @@ AreAllReady on desk calls = (at : ℕ) (call : ReadyCall) → slice_get calls at
 
 -- Two calls that the rules of the call don't refuse have one class exactly if they have one ticket.
 pub record AreClassed (calls : List ReadyCall) : Type 0 where
-  pub one_ticket : (at other : ℕ) (call second : ReadyCall) → slice_get calls at ≡ Some call → slice_get calls other ≡ Some second → is_passed call.screening ≡ true
-      → is_passed second.screening ≡ true → class_in call ≡ class_in second → ticket_in call.screening ≡ ticket_in second.screening
-  pub one_class : (at other : ℕ) (call second : ReadyCall) → slice_get calls at ≡ Some call → slice_get calls other ≡ Some second → is_passed call.screening ≡ true
-      → is_passed second.screening ≡ true → ticket_in call.screening ≡ ticket_in second.screening → class_in call ≡ class_in second
+  pub one_ticket : (at other : ℕ) (call second : ReadyCall) → slice_get calls at ≡ Some call
+      → slice_get calls other ≡ Some second → is_passed call.screening ≡ true → is_passed second.screening ≡ true
+      → class_in call ≡ class_in second → ticket_in call.screening ≡ ticket_in second.screening
+  pub one_class : (at other : ℕ) (call second : ReadyCall) → slice_get calls at ≡ Some call
+      → slice_get calls other ≡ Some second → is_passed call.screening ≡ true → is_passed second.screening ≡ true
+      → ticket_in call.screening ≡ ticket_in second.screening → class_in call ≡ class_in second
 
 -- no two calls have one number
 abbrev pub AreNumbered : List ReadyCall → Type 0
-AreNumbered calls = (at other : ℕ) (call second : ReadyCall) → slice_get calls at ≡ Some call → slice_get calls other ≡ Some second → call.number ≡ second.number → at ≡ other
+AreNumbered calls = (at other : ℕ) (call second : ReadyCall) → slice_get calls at ≡ Some call
+    → slice_get calls other ≡ Some second → call.number ≡ second.number → at ≡ other
 
--- There is a class for each call that the rules of the call don't refuse, and room for as many more calls in the past as there are classes.
+-- There is a class for each call that the rules of the call don't refuse, and room for as many more calls in the past
+-- as there are classes.
 pub record HasRoom (calls : List ReadyCall) (spare : ℕ) : Type 0 where
   pub classes : ℕ
-  pub each : (at : ℕ) (call : ReadyCall) → slice_get calls at ≡ Some call → is_passed call.screening ≡ true → class_in call < classes
+  pub each : (at : ℕ) (call : ReadyCall) → slice_get calls at ≡ Some call → is_passed call.screening ≡ true
+      → class_in call < classes
   pub room : classes ≤ spare
 
 -- ---- the seats

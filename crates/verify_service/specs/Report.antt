@@ -1,5 +1,5 @@
--- The report (this project's own format): a line for each call, with its number and four words after it: what came of it, the response code,
--- the rule, and the place or the call that is replayed.
+-- The report (this project's own format): a line for each call, with its number and four words after it: what came of
+-- it, the response code, the rule, and the place or the call that is replayed.
 use Rattle.std.specs.Prelude.{ℕ, suc, ◌==◌, List, [], ◌∷◌, ◌++◌, codes, if◌then◌else◌}
 use Rattle.std.specs.Fmt.{decimal}
 use Rattle.verify_rules.specs.Code.{code_of}
@@ -10,9 +10,11 @@ use Rattle.verify_service.specs.declared.outcome.Outcome.{Outcome}
 use Rattle.verify_service.specs.declared.outcome.Outcome.TheVariants.{Valid, Refused, Replay, Unread, Unasked}
 
 abbrev pub refused_text : Refusal → List ℕ
-refused_text refused = codes "refused " ++ (decimal (code_of refused.rule) ++ (codes " " ++ (decimal refused.rule ++ (codes " " ++ place_text refused.place))))
+refused_text refused = codes "refused " ++ (decimal (code_of refused.rule)
+    ++ (codes " " ++ (decimal refused.rule ++ (codes " " ++ place_text refused.place))))
 
--- the rule that isn't decided if the provider failed: 16 at the signature of the PASSporT, whose part is 0, and 15 at that of a certificate
+-- the rule that isn't decided if the provider failed: 16 at the signature of the PASSporT, whose part is 0, and 15 at
+-- that of a certificate
 abbrev pub unasked_rule : ℕ → ℕ
 unasked_rule part = if part == 0 then 16 else 15
 

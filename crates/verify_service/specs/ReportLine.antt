@@ -14,7 +14,8 @@ use Rattle.verify_service.specs.declared.outcome.Outcome.TheVariants.{Valid, Ref
 abbrev pub IsPlaceWord : Place → List ℕ → Type 0
 IsPlaceWord bad word = word ≡ join_with_byte 46 (decimal bad.field ∷ decimal bad.part ∷ [])
 
--- a failed question for a signature leaves rule 16 open at part 0, where the PASSporT's own is asked for, and else rule 15
+-- a failed question for a signature leaves rule 16 open at part 0, where the PASSporT's own is asked for, and else rule
+-- 15
 abbrev pub IsOpenRule : ℕ → ℕ → Type 0
 IsOpenRule part rule = ((part ≡ 0) × (rule ≡ 16)) ⊎ ((1 ≤ part) × (rule ≡ 15))
 

@@ -53,7 +53,8 @@ row_of settings entry outcome = record {
 abbrev pub rows_of : Settings → List Entry → List Outcome → List Row
 rows_of settings [] outcomes = []
 rows_of settings (entry ∷ entries) [] = []
-rows_of settings (entry ∷ entries) (outcome ∷ outcomes) = row_of settings entry outcome ∷ rows_of settings entries outcomes
+rows_of settings (entry ∷ entries) (outcome ∷ outcomes) =
+    row_of settings entry outcome ∷ rows_of settings entries outcomes
 
 -- ---- the past, as the replay rule sees it
 
@@ -66,9 +67,10 @@ held past ticket = option_map kept_of_past (found past ticket)
 
 -- ---- a round
 
--- The outcomes of the calls of a round are legal: each is what the rules say of its call in this world; and the calls that pass are settled
--- over the past, of which `next` is left.
-pub record RoundLegal (settings : Settings) (world : World) (past : Held) (entries : List Entry) (outcomes : List Outcome) (next : Held) : Type 0 where
+-- The outcomes of the calls of a round are legal: each is what the rules say of its call in this world; and the calls
+-- that pass are settled over the past, of which `next` is left.
+pub record RoundLegal (settings : Settings) (world : World) (past : Held) (entries : List Entry)
+    (outcomes : List Outcome) (next : Held) : Type 0 where
   pub counted : length outcomes ≡ length entries
   pub judged : EachJudged settings world entries outcomes
   pub settled : RoundSettled past (round_of (rows_of settings entries outcomes)) next

@@ -1,5 +1,6 @@
 -- What a service is told, and what it holds.
-use Rattle.std.specs.Prelude.{◌≡◌, ⊤, ℕ, ◌-◌, ◌<◌, ◌≤◌, nat_lt, nat_le, Bool, true, ◌&&◌, List, [], ◌∷◌, length, Option, Some, None}
+use Rattle.std.specs.Prelude.{◌≡◌, ⊤, ℕ, ◌-◌, ◌<◌, ◌≤◌, nat_lt, nat_le, Bool, true, ◌&&◌, List, [], ◌∷◌, length, Option}
+use Rattle.std.specs.Prelude.{Some, None}
 use Rattle.std.specs.List.{slice_get}
 use Rattle.call_log.specs.Entry.{Entry}
 use Rattle.text_grammar.specs.Moment.{last_second}
@@ -42,7 +43,8 @@ pub record ServiceView : Type 0 where
 abbrev pub EachKept : ℕ → PastView → Type 0
 EachKept number past = (ticket : List ℕ) (kept : Passing) → found past ticket ≡ Some kept → IsKept number kept
 
--- what holds of every service: it may hold 4,096 chains, its last call came by the end of the year 9999, and what it keeps is of the calls so far
+-- what holds of every service: it may hold 4,096 chains, its last call came by the end of the year 9999, and what it
+-- keeps is of the calls so far
 pub record IsSound (capacity number moment : ℕ) (past : PastView) : Type 0 where
   pub capacity_is : capacity ≡ 4096
   pub moment_within : moment ≤ 253402300799
@@ -50,13 +52,15 @@ pub record IsSound (capacity number moment : ℕ) (past : PastView) : Type 0 whe
 
 -- the world of a service with the files of a shelf and what a provider says
 abbrev pub world_of : ServiceView → ShelfFiles → Says → World
-world_of service files says = record { chains = service.chains; files = files; anchors = service.anchors; table = service.table; says = says }
+world_of service files says =
+    record { chains = service.chains; files = files; anchors = service.anchors; table = service.table; says = says }
 
 -- what a service judges by, but for the provider
 abbrev pub materials_of : ServiceView → Materials
 materials_of service = record { chains = service.chains; anchors = service.anchors; table = service.table }
 
--- Each chain that is held is what the rules say of it, over the files that a shelf tells, as far as its questions were answered.
+-- Each chain that is held is what the rules say of it, over the files that a shelf tells, as far as its questions were
+-- answered.
 abbrev pub HoldsRight : Option ShelfFiles → Says → ServiceView → Type 0
 HoldsRight told says service = AreRightHeld told (materials_of service) says service.held.entries []
 
@@ -64,7 +68,8 @@ HoldsRight told says service = AreRightHeld told (materials_of service) says ser
 abbrev pub held_texts : ServiceView → List (List ℕ)
 held_texts service = names service.held.entries
 
--- the x5u texts of a round of these calls: those that they name, for which a file is listed and whose chain isn't held, in the order in which they first appear
+-- the x5u texts of a round of these calls: those that they name, for which a file is listed and whose chain isn't held,
+-- in the order in which they first appear
 abbrev pub texts_in : ServiceView → List Entry → List (List ℕ)
 texts_in service entries = round_texts service.chains service.held.entries (named service.settings entries)
 
@@ -79,9 +84,11 @@ pub record Follows (number moment : ℕ) (entry : Entry) : Type 0 where
 
 abbrev pub EachFollows : ℕ → ℕ → List Entry → Type 0
 EachFollows number moment [] = ⊤
-EachFollows number moment (entry ∷ entries) = Follows number moment entry × EachFollows entry.number entry.moment entries
+EachFollows number moment (entry ∷ entries) =
+    Follows number moment entry × EachFollows entry.number entry.moment entries
 
--- They are 1 to 256, their numbers rise and their moments never fall, from the number and the moment of the last that was handed in.
+-- They are 1 to 256, their numbers rise and their moments never fall, from the number and the moment of the last that
+-- was handed in.
 pub record Follow (number moment : ℕ) (entries : List Entry) : Type 0 where
   pub some : 1 ≤ length entries
   pub few : length entries ≤ 256
@@ -99,7 +106,8 @@ follows_on number moment entry = nat_lt number entry.number && nat_lt entry.numb
 
 abbrev pub all_follow : ℕ → ℕ → List Entry → Bool
 all_follow number moment [] = true
-all_follow number moment (entry ∷ entries) = follows_on number moment entry && all_follow entry.number entry.moment entries
+all_follow number moment (entry ∷ entries) =
+    follows_on number moment entry && all_follow entry.number entry.moment entries
 
 abbrev pub number_or : ℕ → Option Entry → ℕ
 number_or number None = number
@@ -136,7 +144,8 @@ pub record IsSameConfig (service now : ServiceView) : Type 0 where
 -- each outcome is what the rules say of its call, if the shelf tells its files
 abbrev pub AreJudged : Option ShelfFiles → ServiceView → Says → List Entry → List Outcome → Type 0
 AreJudged None service says entries outcomes = ⊤
-AreJudged (Some files) service says entries outcomes = EachJudged service.settings (world_of service files says) entries outcomes
+AreJudged (Some files) service says entries outcomes =
+    EachJudged service.settings (world_of service files says) entries outcomes
 
 -- the past is only purged
 abbrev pub IsPurged : List Entry → Held → Held → Type 0

@@ -12,12 +12,14 @@ use Rattle.verify_service.specs.RoundRead.{own_of}
 
 -- ---- which are judged
 
--- These are what was judged of the files at the places of a worker's own, in turn, for the worker of this index among so many. Its own are those from
--- this place on that leave its index as remainder.
+-- These are what was judged of the files at the places of a worker's own, in turn, for the worker of this index among
+-- so many. Its own are those from this place on that leave its index as remainder.
 abbrev pub EachOwn : Materials → Says → ℕ → ℕ → ℕ → List Fetched → List (Option JudgedView) → Type 0
-EachOwn materials says index count place files chains = EachPair (IsJudgedFile materials says) (own_of index count place files) chains
+EachOwn materials says index count place files chains =
+    EachPair (IsJudgedFile materials says) (own_of index count place files) chains
 
--- what was judged at a place, by what each worker judged: the worker whose place it is has it after what it judged at its places before
+-- what was judged at a place, by what each worker judged: the worker whose place it is has it after what it judged at
+-- its places before
 abbrev pub chain_at : (ℕ → List (Option JudgedView)) → ℕ → ℕ → Option JudgedView
 chain_at chains count place = get_or (chains (place % count)) (place / count) None
 
@@ -36,8 +38,9 @@ abbrev pub certificates : List (Option JudgedView) → ℕ
 certificates [] = 0
 certificates (chain ∷ chains) = certificates_in chain + certificates chains
 
--- A worker asked its provider no more questions than there are certificates in the chains that it judged. At most as many of these chains
--- have a question that failed as faults of its provider were counted, and one only if the count rose.
+-- A worker asked its provider no more questions than there are certificates in the chains that it judged. At most as
+-- many of these chains have a question that failed as faults of its provider were counted, and one only if the count
+-- rose.
 pub record ChainsCounted (asks asks_now faults faults_now : ℕ) (chains : List (Option JudgedView)) : Type 0 where
   pub asks_most : asks_now ≤ asks + certificates chains
   pub asks_stay : asks ≤ asks_now

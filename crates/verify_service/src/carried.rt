@@ -8,8 +8,9 @@ use crate::screening::ReadyCall;
 use replay_desk::{Desk, Seat};
 use std::marker::Model;
 
-/// A round that was carried out: what comes of each of its calls, the class of each call's ticket, and the desk on which the calls claimed, with
-/// the one seat that has all wins and losses. In contracts it is the record of these four.
+/// A round that was carried out: what comes of each of its calls, the class of each call's ticket, and the desk on
+/// which the calls claimed, with the one seat that has all wins and losses. In contracts it is the record of these
+/// four.
 #[derive(Drop)]
 pub struct Carried {
     pub(crate) outcomes: Vec<Outcome>,
@@ -25,7 +26,12 @@ impl Model for Carried {
 
     ghost Value = { CarriedView };
 
-    ghost view = { λ c. record { outcomes = c.outcomes.items; classes = map (λ call. call.class) c.calls.items; desk = c.desk; seat = c.seat } };
+    ghost view = { λ c. record {
+      outcomes = c.outcomes.items;
+      classes = map (λ call. call.class) c.calls.items;
+      desk = c.desk;
+      seat = c.seat;
+    } };
 
     ghost invariant = { λ c. (vec_len c.outcomes ≡ vec_len c.calls) × (c.seat.desk ≡ c.desk) × (c.seat.share ≡ whole) };
 }
@@ -39,8 +45,8 @@ impl Carried {
         &self.outcomes
     }
 
-    /// The class of the call at this index: of its ticket, the digest of what was signed as its last PASSporT. There is none exactly if the rules of
-    /// the call refuse the call.
+    /// The class of the call at this index: of its ticket, the digest of what was signed as its last PASSporT. There is
+    /// none exactly if the rules of the call refuse the call.
     #[tactic(auto, using(call_judging::proofs::ListLaws::mapped_at))]
     pub fn class(&self, index: usize) -> Option<u32>
         requires { index < length self.now.outcomes }
@@ -65,7 +71,8 @@ impl Carried {
         &self.seat
     }
 
-    /// Closes the desk with its seat, and gives what comes of each call. Each loss of the seat then names one of its wins.
+    /// Closes the desk with its seat, and gives what comes of each call. Each loss of the seat then names one of its
+    /// wins.
     pub fn close(self) -> Vec<Outcome>
         ensures outcomes { result.items ≡ self.outcomes }
         ensures named { (p : ℕ × ℕ) → In p self.seat.losses → In p self.seat.wins }

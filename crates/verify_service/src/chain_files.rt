@@ -21,13 +21,17 @@ pub(crate) fn fetch_all<S: Shelf>(
 ) -> Result<Vec<Fetched>, AllocError>
     ensures counted { IfOk result (λ files. vec_len files ≡ length texts.now) }
     ensures fetched { IfOk result (λ files. EachPair (IsFetched (S.files shelf.old) world.now) texts.now files.items) }
-    ensures contents { IfOk result (λ files. EachPair (λ x5u file. IsContent (S.files shelf.old) world.now x5u (bytes_in file)) texts.now files.items) }
+    ensures contents { IfOk result (λ files.
+        EachPair (λ x5u file. IsContent (S.files shelf.old) world.now x5u (bytes_in file)) texts.now files.items) }
 
-    // At most as many files couldn't be read as faults were counted. No more were read than there are bytes of; nor than there are texts, also if
-    // memory ran out; and no file was asked for twice, whatever came of it.
-    ensures unread { IfOk result (λ files. AreCounted is_unread_file files.items (S.counts shelf.old).faults (S.counts shelf.new).faults) }
-    ensures rose { IfOk result (λ files. AreCounted is_read_file files.items (S.counts shelf.old).reads (S.counts shelf.new).reads) }
-    ensures read { IfOk result (λ files. (S.counts shelf.new).reads ≤ (S.counts shelf.old).reads + length (filter is_read_file files.items)) }
+    // At most as many files couldn't be read as faults were counted. No more were read than there are bytes of; nor
+    // than there are texts, also if memory ran out; and no file was asked for twice, whatever came of it.
+    ensures unread { IfOk result
+        (λ files. AreCounted is_unread_file files.items (S.counts shelf.old).faults (S.counts shelf.new).faults) }
+    ensures rose { IfOk result
+        (λ files. AreCounted is_read_file files.items (S.counts shelf.old).reads (S.counts shelf.new).reads) }
+    ensures read { IfOk result
+        (λ files. (S.counts shelf.new).reads ≤ (S.counts shelf.old).reads + length (filter is_read_file files.items)) }
     ensures reads { (S.counts shelf.new).reads ≤ (S.counts shelf.old).reads + length texts.now }
     ensures tries { tries (S.counts shelf.new) ≤ tries (S.counts shelf.old) + length texts.now }
 

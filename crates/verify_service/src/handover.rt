@@ -15,8 +15,8 @@ use std::alloc::{AllocError, Global};
 use verify_rules::Settings;
 
 impl Service {
-    /// A service that goes on from the state of an earlier run: from its last call, and with what it keeps. The state was judged by as many seconds as
-    /// `past` of the settings says. `Memory` is the only error.
+    /// A service that goes on from the state of an earlier run: from its last call, and with what it keeps. The state
+    /// was judged by as many seconds as `past` of the settings says. `Memory` is the only error.
     pub fn restore(
         alloc: Global,
         settings: Settings,
@@ -40,8 +40,9 @@ impl Service {
         })
     }
 
-    /// What is handed on to the next run: the last call, and what is left of the past after a purge by the moment of that call. Refused or not, this
-    /// ends the round that is prepared: from here on it isn't the newest. `Memory` is the only error.
+    /// What is handed on to the next run: the last call, and what is left of the past after a purge by the moment of
+    /// that call. Refused or not, this ends the round that is prepared: from here on it isn't the newest. `Memory` is
+    /// the only error.
     pub fn state(&mut self) -> Result<State, AllocError>
         ensures state { IfOk result (IsStateOf self.old) }
         ensures stays { HandsOn self.old self.new }
@@ -70,7 +71,8 @@ impl Service {
 /// The past that a state keeps.
 #[tactic(auto, using(crate::proofs::HandingLaws::restored_kept))]
 fn past_of(alloc: Global, state: &State) -> Result<Past, AllocError>
-    ensures found { IfOk result (λ past. (ticket : List ℕ) → found past ticket ≡ lookup (bytes_eq ticket) state.now.kept) }
+    ensures found { IfOk result (λ past. (ticket : List ℕ)
+        → found past ticket ≡ lookup (bytes_eq ticket) state.now.kept) }
     ensures kept { IfOk result (λ past. EachKept state.now.call past) }
     ensures rules { IsState state.now }
 {

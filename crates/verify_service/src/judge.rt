@@ -24,12 +24,12 @@ use stir_outside::{Gate, Provider};
 use verify_rules::{Screened, Verdict, finish, right_law, screened_law, signed_law};
 
 impl Service {
-    /// Judges the call at this index of the service's newest prepared round, and if it passes claims the class of its ticket with this seat of the
-    /// round's desk. It passes the gate first, once, under this worker's number. Threads of a caller's own may do so side by side, each with a seat of its
-    /// own. It takes no memory and waits for nobody.
+    /// Judges the call at this index of the service's newest prepared round, and if it passes claims the class of its
+    /// ticket with this seat of the round's desk. It passes the gate first, once, under this worker's number. Threads
+    /// of a caller's own may do so side by side, each with a seat of its own. It takes no memory and waits for nobody.
     ///
-    /// The call is valid if it breaks no rule, isn't set aside, the past hasn't its ticket, and the claim was won. It is a replay if it passes
-    /// likewise and the past has its ticket, or the claim was lost.
+    /// The call is valid if it breaks no rule, isn't set aside, the past hasn't its ticket, and the claim was won. It
+    /// is a replay if it passes likewise and the past has its ticket, or the claim was lost.
     pub fn judge<P: Provider, G: Gate>(
         &self,
         prepared: &Prepared,
@@ -43,18 +43,22 @@ impl Service {
         requires index { index < length prepared.now.calls }
         requires desk { seat.old.desk ≡ prepared.now.desk }
 
-        // What is answered is what the rules say over the chains that the round has, and over all files for which these are right.
+        // What is answered is what the rules say over the chains that the round has, and over all files for which these
+        // are right.
         ensures said { (call : ReadyCall) → slice_get prepared.now.calls index ≡ Some call
             → OutcomeSays (basis_in self.now prepared.now) (provided P.Provider provider.old provider.new) call result }
 
-        // A valid call is won at the desk, and a replay is one of the past or lost there; and a call is valid exactly if it is won.
-        ensures claims { (call : ReadyCall) → slice_get prepared.now.calls index ≡ Some call → Claims self.now.past call seat.old seat.new result }
+        // A valid call is won at the desk, and a replay is one of the past or lost there; and a call is valid exactly
+        // if it is won.
+        ensures claims { (call : ReadyCall) → slice_get prepared.now.calls index ≡ Some call
+            → Claims self.now.past call seat.old seat.new result }
         ensures won { (call : ReadyCall) → slice_get prepared.now.calls index ≡ Some call
-            → (result ≡ Outcome.Valid) ↔ HasWon (basis_in self.now prepared.now) (provided P.Provider provider.old provider.new) call seat.old seat.new }
+            → (result ≡ Outcome.Valid) ↔ HasWon (basis_in self.now prepared.now)
+            (provided P.Provider provider.old provider.new) call seat.old seat.new }
         ensures settled { Settled seat.new }
 
-        // A call is set aside for a signature of its own only if the provider failed in this call. The provider is asked once at most for each PASSporT of
-        // the call that is judged.
+        // A call is set aside for a signature of its own only if the provider failed in this call. The provider is
+        // asked once at most for each PASSporT of the call that is judged.
         ensures unasked { HasCauseIf (is_unasked_passport result) (P.faults provider.old) (P.faults provider.new) }
         ensures asks { (call : ReadyCall) → slice_get prepared.now.calls index ≡ Some call
             → P.asks provider.new ≤ P.asks provider.old + length (readings_in call.screening) }
@@ -72,10 +76,11 @@ impl Service {
     }
 }
 
-/// Judges a call, and if it passes claims the class of its ticket with this seat. The gate is passed once, before anything else is done.
+/// Judges a call, and if it passes claims the class of its ticket with this seat. The gate is passed once, before
+/// anything else is done.
 ///
-/// The call is valid if it breaks no rule, isn't set aside, the past hasn't its ticket, and the claim was won. It is a replay if it passes
-/// likewise and the past has its ticket, or the claim was lost. It takes no memory.
+/// The call is valid if it breaks no rule, isn't set aside, the past hasn't its ticket, and the claim was won. It is a
+/// replay if it passes likewise and the past has its ticket, or the claim was lost. It takes no memory.
 pub(crate) fn judge_ready<P: Provider, G: Gate>(
     lent: &Lent<'_>,
     call: &ReadyCall,
@@ -88,7 +93,8 @@ pub(crate) fn judge_ready<P: Provider, G: Gate>(
     requires parts { FailAtQuestions lent.now.kept.now }
     requires desk { seat.old.desk ≡ lent.now.desk.now }
 
-    // What is answered is what the rules say over the chains that the round has, and over all files for which these are right.
+    // What is answered is what the rules say over the chains that the round has, and over all files for which these are
+    // right.
     ensures said { OutcomeSays (basis_of lent.now) (provided P.Provider provider.old provider.new) call.now result }
 
     // A valid call is won at the desk, and a replay is one of the past or lost there.
@@ -130,13 +136,16 @@ fn judge_screened<P: Provider>(
     seat: &mut Seat,
     provider: &mut P,
 ) -> Outcome
-    requires there { AreThere lent.now.materials.now.chains lent.now.cache.now.entries lent.now.kept.now (x5us screened.now.readings) }
+    requires there { AreThere lent.now.materials.now.chains lent.now.cache.now.entries lent.now.kept.now
+        (x5us screened.now.readings) }
     requires parts { FailAtQuestions lent.now.kept.now }
     requires desk { seat.old.desk ≡ lent.now.desk.now }
     requires class { class < lent.now.desk.now.words }
     requires number { number < 4294967295 }
-    ensures said { IsAnswer (basis_of lent.now) (provided P.Provider provider.old provider.new) moment screened.now result }
-    ensures claims { ClaimsAt lent.now.past.now (ticket_by screened.now.readings) class number seat.old seat.new result }
+    ensures said { IsAnswer (basis_of lent.now) (provided P.Provider provider.old provider.new)
+        moment screened.now result }
+    ensures claims { ClaimsAt lent.now.past.now (ticket_by screened.now.readings) class number
+        seat.old seat.new result }
     ensures unasked { HasCauseIf (is_unasked_passport result) (P.faults provider.old) (P.faults provider.new) }
     ensures asks { P.asks provider.new ≤ P.asks provider.old + length screened.now.readings }
     ensures asks_stay { P.asks provider.old ≤ P.asks provider.new }
@@ -155,7 +164,8 @@ fn judge_screened<P: Provider>(
     settle(lent, verdict, class, number, screened.ticket(), seat)
 }
 
-/// What is answered by a verdict. A call that passes is a replay if its ticket is held or the claim of its class is lost, and else valid.
+/// What is answered by a verdict. A call that passes is a replay if its ticket is held or the claim of its class is
+/// lost, and else valid.
 fn settle(
     lent: &Lent<'_>,
     verdict: Verdict,

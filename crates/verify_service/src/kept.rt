@@ -1,4 +1,5 @@
-//! The chains that a round keeps for itself, and which chains these are: those that the cache doesn't hold from then on.
+//! The chains that a round keeps for itself, and which chains these are: those that the cache doesn't hold from then
+//! on.
 ghost use Rattle.std.specs.Prelude.{◌≡◌, ℕ, List, [], OnOk, OnErr};
 ghost use Rattle.std.specs.Option.{option_copied};
 ghost use Rattle.cert_store.specs.Asking.{is_failed};
@@ -12,8 +13,9 @@ use std::alloc::{AllocError, Global};
 use std::collections::HashMap;
 use std::marker::Model;
 
-/// What is known, for one round alone, of chains by their x5u (RFC 7515, section 4.1.5): there is none, its file couldn't be read or is too long,
-/// or a question of it failed. A contract sees what is known for which x5u, in no order that it names.
+/// What is known, for one round alone, of chains by their x5u (RFC 7515, section 4.1.5): there is none, its file
+/// couldn't be read or is too long, or a question of it failed. A contract sees what is known for which x5u, in no
+/// order that it names.
 #[derive(Drop)]
 pub(crate) struct KeptChains {
     chains: HashMap<Vec<u8>, ChainStatus>,
@@ -59,8 +61,8 @@ impl KeptChains {
     }
 }
 
-/// Has the cache hold the chain of an x5u, if it was judged and each of its questions was answered, and else the round keep it. `AllocError` is
-/// the only error; the cache then is as it was.
+/// Has the cache hold the chain of an x5u, if it was judged and each of its questions was answered, and else the round
+/// keep it. `AllocError` is the only error; the cache then is as it was.
 pub(crate) fn store_chain(
     alloc: Global,
     x5u: &[u8],

@@ -1,4 +1,5 @@
-//! The verification service (RFC 8224, section 6.2): it judges the calls of a round, and lets each PASSporT pass one call.
+//! The verification service (RFC 8224, section 6.2): it judges the calls of a round, and lets each PASSporT pass one
+//! call.
 //!
 //! # The way through
 //!
@@ -12,8 +13,10 @@
 //! Carried                   an Outcome for each call   --report_line-->   the lines of the report
 //! ```
 //!
-//! - [`Service::new`] takes the settings and the [`World`] (chain map, anchors, code table). [`Service::round`] is `prepare` and then `carry`.
-//! - A [`Worker`] is a provider of signatures and a gate. Their providers say the same. If there are several, each judges its calls in a thread of its own.
+//! - [`Service::new`] takes the settings and the [`World`] (chain map, anchors, code table). [`Service::round`] is
+//!   `prepare` and then `carry`.
+//! - A [`Worker`] is a provider of signatures and a gate. Their providers say the same. If there are several, each
+//!   judges its calls in a thread of its own.
 //! - [`Service::judge`] judges a call of a prepared round, for a caller with threads of its own.
 //!
 //! ```rust
@@ -24,19 +27,21 @@
 //! }
 //! ```
 //!
-//! The service holds up to 4,096 judged chains, and the past of tickets, from round to round. From run to run [`Service::state`] hands its past on,
-//! and [`Service::restore`] goes on from it: `verify --state`.
+//! The service holds up to 4,096 judged chains, and the past of tickets, from round to round. From run to run
+//! [`Service::state`] hands its past on, and [`Service::restore`] goes on from it: `verify --state`.
 //!
 //! # What it isn't
 //!
-//! It reads no log and writes nothing: `log_rounds` and `log_run` do. The rules themselves are in `verify_rules`, and the claims in `replay_desk`.
+//! It reads no log and writes nothing: `log_rounds` and `log_run` do. The rules themselves are in `verify_rules`, and
+//! the claims in `replay_desk`.
 //!
 //! # What is proved
 //!
-//! Each outcome is what the rules say of its call in the world of the files and the signatures. Of the calls that pass with one ticket one is valid,
-//! and each other a replay of it, whatever the workers do at once. A call is set aside no more often than reads or questions failed. If memory runs
-//! out, that is before the first claim. Rounds one after another, from a new service on and from state to state, are legal together ([`rounds_law`]).
-//! `docs/dev/PROVED.md`, "Rounds", has the clauses, and `docs/dev/ARCHITECTURE.md` the way of a round in detail.
+//! Each outcome is what the rules say of its call in the world of the files and the signatures. Of the calls that pass
+//! with one ticket one is valid, and each other a replay of it, whatever the workers do at once. A call is set aside no
+//! more often than reads or questions failed. If memory runs out, that is before the first claim. Rounds one after
+//! another, from a new service on and from state to state, are legal together ([`rounds_law`]). `docs/dev/PROVED.md`,
+//! "Rounds", has the clauses, and `docs/dev/ARCHITECTURE.md` the way of a round in detail.
 //!
 //! # Cases
 //!

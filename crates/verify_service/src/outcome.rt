@@ -19,8 +19,8 @@ pub enum Outcome {
     },
     /// It is set aside: the file with the certificates of the PASSporT there couldn't be read.
     Unread(Place),
-    /// It is set aside: the provider failed at a signature. It is that of a certificate, whose number the part is, or of the PASSporT if
-    /// the part is 0.
+    /// It is set aside: the provider failed at a signature. It is that of a certificate, whose number the part is, or
+    /// of the PASSporT if the part is 0.
     Unasked(Place),
 }
 

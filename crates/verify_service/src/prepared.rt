@@ -9,8 +9,9 @@ use crate::ready::Round;
 use replay_desk::{Desk, Seat};
 use std::marker::Model;
 
-/// A round that is prepared: each call was screened, each chain that the calls need is held by the service or kept here, and each ticket has a class
-/// on its desk. `Service::carry` carries it out; or threads of a caller's own judge its calls, by `Service::judge` with seats of its desk.
+/// A round that is prepared: each call was screened, each chain that the calls need is held by the service or kept
+/// here, and each ticket has a class on its desk. `Service::carry` carries it out; or threads of a caller's own judge
+/// its calls, by `Service::judge` with seats of its desk.
 ///
 /// In contracts it is the record of its calls, what it keeps of chains, its desk, and the seats that weren't taken out.
 #[derive(Drop)]
@@ -27,9 +28,11 @@ impl Model for Prepared {
 
     ghost Value = { PreparedView };
 
-    ghost view = { λ p. record { calls = p.round.calls.items; kept = p.round.kept; desk = p.round.desk; seats = p.seats.items } };
+    ghost view = { λ p.
+        record { calls = p.round.calls.items; kept = p.round.kept; desk = p.round.desk; seats = p.seats.items } };
 
-    ghost invariant = { λ p. (vec_len p.outcomes ≡ vec_len p.round.calls) × IsPrepared p.round.calls.items p.round.kept p.round.desk p.seats.items };
+    ghost invariant = { λ p. (vec_len p.outcomes ≡ vec_len p.round.calls)
+        × IsPrepared p.round.calls.items p.round.kept p.round.desk p.seats.items };
 }
 
 impl Prepared {
@@ -49,8 +52,8 @@ impl Prepared {
         self.round.calls[index].number
     }
 
-    /// The class of the call at this index: of its ticket, the digest of what was signed as its last PASSporT. There is none exactly if the rules of
-    /// the call refuse the call.
+    /// The class of the call at this index: of its ticket, the digest of what was signed as its last PASSporT. There is
+    /// none exactly if the rules of the call refuse the call.
     #[tactic(auto, using(call_judging::proofs::ListLaws::mapped_at))]
     pub fn class(&self, index: usize) -> Option<u32>
         requires { index < length self.now.calls }
@@ -66,7 +69,8 @@ impl Prepared {
         &self.round.desk
     }
 
-    /// Takes a seat of its desk out: one at which nothing was claimed yet, with at least 16,777,216 parts. There is none exactly if all were taken.
+    /// Takes a seat of its desk out: one at which nothing was claimed yet, with at least 16,777,216 parts. There is
+    /// none exactly if all were taken.
     pub fn seat(&mut self) -> Option<Seat>
         ensures some { IfSome result (λ seat. self.old ≡ record self.new { seats = self.new.seats ++ seat ∷ [] }) }
         ensures seat { IfSome result (λ seat. IsSeat self.new.desk seat) }

@@ -4,8 +4,8 @@ use crate::screening::ReadyCall;
 use cert_store::{Cache, World};
 use replay_desk::{Desk, Past};
 
-/// What those who judge the calls of a round share: the calls, the chains that the round keeps, and the desk on which calls claim the class of
-/// their ticket.
+/// What those who judge the calls of a round share: the calls, the chains that the round keeps, and the desk on which
+/// calls claim the class of their ticket.
 #[derive(Drop)]
 pub(crate) struct Round {
     pub(crate) calls: Vec<ReadyCall>,

@@ -8,8 +8,8 @@ use crate::kept::KeptChains;
 use cert_store::Cache;
 use verify_rules::{ChainState, Chains, Screened};
 
-/// The chains of a call's PASSporTs, in the order in which the call went: each from those that the round keeps, and else from those that the
-/// cache holds. There is none for an x5u that is in neither. Nothing is copied.
+/// The chains of a call's PASSporTs, in the order in which the call went: each from those that the round keeps, and
+/// else from those that the cache holds. There is none for an x5u that is in neither. Nothing is copied.
 #[derive(Clone, Copy)]
 pub(crate) struct RoundChains<'a> {
     pub(crate) kept: &'a KeptChains,

@@ -1,4 +1,5 @@
-//! What is left of the workers once the calls of a round are judged: their seats, what they answered, and the calls that are valid.
+//! What is left of the workers once the calls of a round are judged: their seats, what they answered, and the calls
+//! that are valid.
 ghost use Rattle.std.specs.Prelude.{◌≡◌, ◌<◌, ◌≤◌, ◌%◌, ◌+◌, ℕ, true, length, map, slice_index_or, vec_len, None};
 ghost use Rattle.replay_desk.specs.Past.{found};
 ghost use Rattle.verify_service.specs.Adding.{AddsCall, AddsOne, IsAdded, IsOnceValid, is_valid, valid_upto};
@@ -13,7 +14,8 @@ use replay_desk::{Desk, Kept, Past, Seat};
 
 /// Takes the seats of all workers, joined to one.
 pub(crate) fn join_all<P, G>(desk: &Desk, workers: &mut [Worker<P, G>]) -> Option<Seat>
-    requires seats { (w : ℕ) (d : _) → w < length workers.old → IsOfDesk desk.now (slice_index_or workers.old w d).seat }
+    requires seats { (w : ℕ) (d : _) → w < length workers.old
+        → IsOfDesk desk.now (slice_index_or workers.old w d).seat }
     ensures joined { result ≡ joined_from None (map (λ worker. worker.seat) workers.old) }
     ensures counted { length workers.new ≡ length workers.old }
     ensures outcomes { EachWorker workers.old workers.new (λ _ before now. now.outcomes ≡ before.outcomes) }

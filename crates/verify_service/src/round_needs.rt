@@ -27,8 +27,8 @@ use std::thread::Threads;
 use stir_outside::{Gate, Provider, Shelf};
 use verify_rules::Settings;
 
-/// Screens each call, in at most this many threads. The calls take over the places of others that are no longer needed. `AllocError` is the only
-/// error.
+/// Screens each call, in at most this many threads. The calls take over the places of others that are no longer needed.
+/// `AllocError` is the only error.
 pub(crate) fn ready_calls<R: Threads + Sync>(
     rt: &R,
     alloc: Global,
@@ -78,8 +78,9 @@ fn is_open(call: &ReadyCall) -> bool
     }
 }
 
-/// Uses the chains that these calls need and the cache holds. Reads and judges the others for which a file is listed. Has the cache hold those of
-/// which each question was answered, and gives what is known of the others. `AllocError` is the only error; what the cache holds is right then.
+/// Uses the chains that these calls need and the cache holds. Reads and judges the others for which a file is listed.
+/// Has the cache hold those of which each question was answered, and gives what is known of the others. `AllocError` is
+/// the only error; what the cache holds is right then.
 pub(crate) fn ready_chains<R: Threads + Sync, S: Shelf, P: Provider + Send, G: Gate + Send>(
     rt: &R,
     alloc: Global,
@@ -91,25 +92,32 @@ pub(crate) fn ready_chains<R: Threads + Sync, S: Shelf, P: Provider + Send, G: G
 ) -> Result<KeptChains, AllocError>
     requires some { 0 < length workers.old }
     requires agree { SayTheSame P.Provider workers.old }
-    ensures reads { (d : _) → IfOk result (RoundReads (S.files shelf.old) world.now (P.says (slice_index_or workers.old 0 d).provider) calls.now
-        (S.counts shelf.old) (S.counts shelf.new) (λ states. (w : ℕ) → w < length workers.old → HasAskedOwn w (length workers.old)
-        (P.asks (slice_index_or workers.old w d).provider) (P.asks (slice_index_or workers.new w d).provider)
-        (P.faults (slice_index_or workers.old w d).provider) (P.faults (slice_index_or workers.new w d).provider) states) cache.old cache.new) }
+    ensures reads { (d : _)
+        → IfOk result (RoundReads (S.files shelf.old) world.now (P.says (slice_index_or workers.old 0 d).provider)
+        calls.now (S.counts shelf.old) (S.counts shelf.new) (λ states. (w : ℕ) → w < length workers.old
+        → HasAskedOwn w (length workers.old) (P.asks (slice_index_or workers.old w d).provider)
+        (P.asks (slice_index_or workers.new w d).provider) (P.faults (slice_index_or workers.old w d).provider)
+        (P.faults (slice_index_or workers.new w d).provider) states) cache.old cache.new) }
 
-    // What is held stays right, no more files were read than the round has texts, and a provider was asked at most for the chains of its worker's texts
-    // that were read; also if memory ran out.
-    ensures right { (d : _) → AreRightHeld (S.files shelf.old) world.now (P.says (slice_index_or workers.old 0 d).provider) cache.old.entries []
-        → AreRightHeld (S.files shelf.old) world.now (P.says (slice_index_or workers.old 0 d).provider) cache.new.entries [] }
-    ensures asks { (d : _) → HasContents (S.files shelf.old) world.now (texts_of world.now cache.old.entries calls.now) (S.counts shelf.old).reads (S.counts shelf.new).reads
-        (λ contents. (w : ℕ) → w < length workers.old → AsksFew w (length workers.old) 0 (P.asks (slice_index_or workers.old w d).provider)
+    // What is held stays right, no more files were read than the round has texts, and a provider was asked at most for
+    // the chains of its worker's texts that were read; also if memory ran out.
+    ensures right { (d : _) → AreRightHeld (S.files shelf.old) world.now
+        (P.says (slice_index_or workers.old 0 d).provider) cache.old.entries [] → AreRightHeld (S.files shelf.old)
+        world.now (P.says (slice_index_or workers.old 0 d).provider) cache.new.entries [] }
+    ensures asks { (d : _) → HasContents (S.files shelf.old) world.now (texts_of world.now cache.old.entries calls.now)
+        (S.counts shelf.old).reads (S.counts shelf.new).reads (λ contents. (w : ℕ) → w < length workers.old
+        → AsksFew w (length workers.old) 0 (P.asks (slice_index_or workers.old w d).provider)
         (P.asks (slice_index_or workers.new w d).provider) contents) }
-    ensures most { (S.counts shelf.new).reads ≤ (S.counts shelf.old).reads + length (texts_of world.now cache.old.entries calls.now) }
-    ensures tries { tries (S.counts shelf.new) ≤ tries (S.counts shelf.old) + length (texts_of world.now cache.old.entries calls.now) }
+    ensures most { (S.counts shelf.new).reads ≤ (S.counts shelf.old).reads
+        + length (texts_of world.now cache.old.entries calls.now) }
+    ensures tries { tries (S.counts shelf.new) ≤ tries (S.counts shelf.old)
+        + length (texts_of world.now cache.old.entries calls.now) }
 
     ensures capacity { cache.new.capacity ≡ cache.old.capacity }
     ensures counted { length workers.new ≡ length workers.old }
     ensures shelf { ShelfStays S.Shelf shelf.old shelf.new }
-    ensures provider { EachWorker workers.old workers.new (λ _ before now. ProviderStays P.Provider before.provider now.provider) }
+    ensures provider { EachWorker workers.old workers.new
+        (λ _ before now. ProviderStays P.Provider before.provider now.provider) }
 {
     stored_law();
     let mut texts = Texts::new(alloc);
@@ -132,19 +140,23 @@ fn fetch_and_judge<R: Threads + Sync, S: Shelf, P: Provider + Send, G: Gate + Se
     requires some { 0 < length workers.old }
     requires agree { SayTheSame P.Provider workers.old }
     ensures counted_files { IfOk result (λ files. vec_len files ≡ length texts.now) }
-    ensures known { (d : _) → IfOk result (λ files. KnownBy (S.files shelf.old) world.now (P.says (slice_index_or workers.old 0 d).provider) texts.now
-        (S.counts shelf.old) (S.counts shelf.new) (λ states. (w : ℕ) → w < length workers.old → HasAskedOwn w (length workers.old)
-        (P.asks (slice_index_or workers.old w d).provider) (P.asks (slice_index_or workers.new w d).provider)
-        (P.faults (slice_index_or workers.old w d).provider) (P.faults (slice_index_or workers.new w d).provider) states)
-        (states_from 0 (chain_at (λ w. (slice_index_or workers.new w d).judged.items) (length workers.old)) files.items)) }
-    ensures asks { (d : _) → HasContents (S.files shelf.old) world.now texts.now (S.counts shelf.old).reads (S.counts shelf.new).reads
-        (λ contents. (w : ℕ) → w < length workers.old → AsksFew w (length workers.old) 0 (P.asks (slice_index_or workers.old w d).provider)
+    ensures known { (d : _)
+        → IfOk result (λ files. KnownBy (S.files shelf.old) world.now (P.says (slice_index_or workers.old 0 d).provider)
+        texts.now (S.counts shelf.old) (S.counts shelf.new) (λ states. (w : ℕ) → w < length workers.old
+        → HasAskedOwn w (length workers.old) (P.asks (slice_index_or workers.old w d).provider)
+        (P.asks (slice_index_or workers.new w d).provider) (P.faults (slice_index_or workers.old w d).provider)
+        (P.faults (slice_index_or workers.new w d).provider) states) (states_from 0
+        (chain_at (λ w. (slice_index_or workers.new w d).judged.items) (length workers.old)) files.items)) }
+    ensures asks { (d : _) → HasContents (S.files shelf.old) world.now texts.now (S.counts shelf.old).reads
+        (S.counts shelf.new).reads (λ contents. (w : ℕ) → w < length workers.old
+        → AsksFew w (length workers.old) 0 (P.asks (slice_index_or workers.old w d).provider)
         (P.asks (slice_index_or workers.new w d).provider) contents) }
     ensures most { (S.counts shelf.new).reads ≤ (S.counts shelf.old).reads + length texts.now }
     ensures tries { tries (S.counts shelf.new) ≤ tries (S.counts shelf.old) + length texts.now }
     ensures counted { length workers.new ≡ length workers.old }
     ensures shelf { ShelfStays S.Shelf shelf.old shelf.new }
-    ensures provider { EachWorker workers.old workers.new (λ _ before now. ProviderStays P.Provider before.provider now.provider) }
+    ensures provider { EachWorker workers.old workers.new
+        (λ _ before now. ProviderStays P.Provider before.provider now.provider) }
 {
     if texts.count() == 0 {
         return Ok(Vec::new(alloc));

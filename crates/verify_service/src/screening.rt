@@ -34,8 +34,8 @@ pub struct ReadyCall {
     pub(crate) class: Option<u32>,
 }
 
-/// Screens each call into its own place, in at most this many threads. A place is open then only if memory ran out. What the places held before is
-/// given back by these threads.
+/// Screens each call into its own place, in at most this many threads. A place is open then only if memory ran out.
+/// What the places held before is given back by these threads.
 pub(crate) fn screen_all<R: Threads + Sync>(
     rt: &R,
     alloc: Global,
@@ -47,7 +47,8 @@ pub(crate) fn screen_all<R: Threads + Sync>(
     requires threads { 0 < threads }
     requires places { length places.old ≡ length calls.now }
     ensures counted { length places.new ≡ length calls.now }
-    ensures screened { (at : ℕ) (place : ReadyCall) → at < length calls.now → ScreensAt settings.now calls.now at (slice_index_or places.new at place) }
+    ensures screened { (at : ℕ) (place : ReadyCall) → at < length calls.now
+        → ScreensAt settings.now calls.now at (slice_index_or places.new at place) }
 {
     thread::for_each_mut(
         rt,
@@ -90,7 +91,8 @@ fn screen_call(alloc: Global, settings: &Settings, call: &Call) -> Screening
     }
 }
 
-/// A law, with nothing to do: a call has at most nine PASSporTs, and is fresh until a day after the last second of the year 9999 at most.
+/// A law, with nothing to do: a call has at most nine PASSporTs, and is fresh until a day after the last second of the
+/// year 9999 at most.
 #[tactic(auto, using(crate::proofs::LastLaws::last_within))]
 fn last_law(screened: &Screened, settings: &Settings)
     requires { screened.now ≡ screened_by settings.now screened.now.readings }

@@ -7,7 +7,8 @@ ghost use Rattle.verify_service.specs.Ready.{HaveSeats, IsFresh};
 use replay_desk::{Desk, Seat};
 use std::alloc::{AllocError, Global};
 
-/// A desk with a word for each class, and with one if there is none; and as many seats of it. `AllocError` is the only error.
+/// A desk with a word for each class, and with one if there is none; and as many seats of it. `AllocError` is the only
+/// error.
 pub(crate) fn desk_for(
     alloc: Global,
     classes: u32,

@@ -20,10 +20,11 @@ const MOST_CALLS: usize = 256;
 /// The most chains that are held.
 pub(crate) const MOST_CHAINS: usize = 4096;
 
-/// Judges calls round by round: what it judges them by, which calls passed before, and the chains that it judged and holds.
+/// Judges calls round by round: what it judges them by, which calls passed before, and the chains that it judged and
+/// holds.
 ///
-/// A contract sees the settings, the chain map, the anchors, the code table, the past, and the chains that are held. It also sees the number
-/// and moment of the last call that was handed in, and whether a round may be its newest.
+/// A contract sees the settings, the chain map, the anchors, the code table, the past, and the chains that are held. It
+/// also sees the number and moment of the last call that was handed in, and whether a round may be its newest.
 #[derive(Drop)]
 pub struct Service {
     pub(crate) settings: Settings,
@@ -59,7 +60,8 @@ impl Model for Service {
 }
 
 impl Service {
-    /// A service that has judged no call yet. `Memory` is the only error. [`Service::restore`] makes one that goes on from an earlier run.
+    /// A service that has judged no call yet. `Memory` is the only error. [`Service::restore`] makes one that goes on
+    /// from an earlier run.
     #[tactic(auto, using(crate::proofs::KeepingLaws::none_kept))]
     pub fn new(alloc: Global, settings: Settings, world: World) -> Result<Service, AllocError>
         ensures { IfOk result (IsNew settings world) }
@@ -77,8 +79,9 @@ impl Service {
         })
     }
 
-    /// Whether these calls may be handed in as a round: they are 1 to 256; their numbers rise, from above that of the last call that was
-    /// handed in, and are below 4,294,967,295; and their moments never fall, and none is after the year 9999.
+    /// Whether these calls may be handed in as a round: they are 1 to 256; their numbers rise, from above that of the
+    /// last call that was handed in, and are below 4,294,967,295; and their moments never fall, and none is after the
+    /// year 9999.
     #[tactic(auto, using(crate::proofs::FollowLaws::follow_means, crate::proofs::FollowLaws::follow_none, crate::proofs::FollowLaws::follow_many))]
     pub fn follows(&self, calls: &[Call]) -> bool
         ensures { IsTrue result ↔ Follow self.now.number self.now.moment calls.now }
@@ -91,8 +94,8 @@ impl Service {
 }
 
 impl Service {
-    /// Closes a round that was carried out, as [`Carried::close`] does. The next round takes over the places of its calls, so that what these hold is given
-    /// back by all threads that screen calls, and not by the one that closes.
+    /// Closes a round that was carried out, as [`Carried::close`] does. The next round takes over the places of its
+    /// calls, so that what these hold is given back by all threads that screen calls, and not by the one that closes.
     pub fn close(&mut self, carried: Carried) -> Vec<Outcome>
         ensures outcomes { result.items ≡ carried.outcomes }
         ensures named { (p : ℕ × ℕ) → In p carried.seat.losses → In p carried.seat.wins }

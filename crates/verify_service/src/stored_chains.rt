@@ -11,8 +11,8 @@ use call_judging::Fetched;
 use cert_store::{Cache, Judged};
 use std::alloc::{AllocError, Global};
 
-/// Stores what is known of the chain of each text, in their order, by its file and what the worker judged whose place it is. `AllocError` is the
-/// only error; the first of them are stored then.
+/// Stores what is known of the chain of each text, in their order, by its file and what the worker judged whose place
+/// it is. `AllocError` is the only error; the first of them are stored then.
 pub(crate) fn store_all<P, G>(
     alloc: Global,
     texts: &Texts,
@@ -24,9 +24,11 @@ pub(crate) fn store_all<P, G>(
     requires some { 0 < length workers.old }
     requires files { length files.now ≡ length texts.now }
     ensures stored { (d : _) → OnOk result (StoresAll texts.now
-        (states_from 0 (chain_at (λ w. (slice_index_or workers.old w d).judged.items) (length workers.old)) files.now) cache.old cache.new kept.old kept.new) }
+        (states_from 0 (chain_at (λ w. (slice_index_or workers.old w d).judged.items) (length workers.old)) files.now)
+        cache.old cache.new kept.old kept.new) }
     ensures first { (d : _) → StoresSome texts.now
-        (states_from 0 (chain_at (λ w. (slice_index_or workers.old w d).judged.items) (length workers.old)) files.now) cache.old cache.new kept.old }
+        (states_from 0 (chain_at (λ w. (slice_index_or workers.old w d).judged.items) (length workers.old)) files.now)
+        cache.old cache.new kept.old }
     ensures capacity { cache.new.capacity ≡ cache.old.capacity }
     ensures counted { length workers.new ≡ length workers.old }
     ensures same { EachWorker workers.old workers.new (λ _ before now. now.provider ≡ before.provider) }
@@ -44,7 +46,8 @@ pub(crate) fn store_all<P, G>(
 /// Takes what a worker judged at the place of this number among its own, counted from 0.
 fn take_judged<P, G>(worker: &mut Worker<P, G>, number: usize) -> Option<Judged>
     ensures judged { result ≡ get_or worker.old.judged.items number None }
-    ensures others { (other : ℕ) → other ≢ number → get_or worker.new.judged.items other None ≡ get_or worker.old.judged.items other None }
+    ensures others { (other : ℕ) → other ≢ number
+        → get_or worker.new.judged.items other None ≡ get_or worker.old.judged.items other None }
     ensures same { worker.new.provider ≡ worker.old.provider }
 {
     match worker.judged.get_mut(number) {

@@ -74,8 +74,8 @@ impl Texts {
     }
 }
 
-/// Uses the chains that these calls need and the cache holds, and adds the x5u texts of the others that are listed. `AllocError` is the only
-/// error; the cache holds the same chains then.
+/// Uses the chains that these calls need and the cache holds, and adds the x5u texts of the others that are listed.
+/// `AllocError` is the only error; the cache holds the same chains then.
 pub(crate) fn gather_calls(
     alloc: Global,
     chains: &ChainMap,
@@ -83,8 +83,10 @@ pub(crate) fn gather_calls(
     cache: &mut Cache,
     texts: &mut Texts,
 ) -> Result<(), AllocError>
-    ensures texts { OnOk result (texts.new ≡ once texts.old (needed chains.now cache.old.entries (all_named calls.now))) }
-    ensures held { OnOk result (cache.new ≡ record cache.old { entries = touch_all (all_named calls.now) cache.old.entries }) }
+    ensures texts { OnOk result
+        (texts.new ≡ once texts.old (needed chains.now cache.old.entries (all_named calls.now))) }
+    ensures held { OnOk result
+        (cache.new ≡ record cache.old { entries = touch_all (all_named calls.now) cache.old.entries }) }
     ensures same { (x5u : List ℕ) → chain_of x5u cache.new.entries ≡ chain_of x5u cache.old.entries }
     ensures capacity { cache.new.capacity ≡ cache.old.capacity }
 {
@@ -103,8 +105,10 @@ fn gather_call(
     cache: &mut Cache,
     texts: &mut Texts,
 ) -> Result<(), AllocError>
-    ensures texts { OnOk result (texts.new ≡ once texts.old (needed chains.now cache.old.entries (named_by screening.now))) }
-    ensures held { OnOk result (cache.new ≡ record cache.old { entries = touch_all (named_by screening.now) cache.old.entries }) }
+    ensures texts { OnOk result
+        (texts.new ≡ once texts.old (needed chains.now cache.old.entries (named_by screening.now))) }
+    ensures held { OnOk result
+        (cache.new ≡ record cache.old { entries = touch_all (named_by screening.now) cache.old.entries }) }
     ensures same { (x5u : List ℕ) → chain_of x5u cache.new.entries ≡ chain_of x5u cache.old.entries }
     ensures capacity { cache.new.capacity ≡ cache.old.capacity }
 {
@@ -123,8 +127,10 @@ fn gather_passports(
     cache: &mut Cache,
     texts: &mut Texts,
 ) -> Result<(), AllocError>
-    ensures texts { OnOk result (texts.new ≡ once texts.old (needed chains.now cache.old.entries (x5us screened.now.readings))) }
-    ensures held { OnOk result (cache.new ≡ record cache.old { entries = touch_all (x5us screened.now.readings) cache.old.entries }) }
+    ensures texts { OnOk result
+        (texts.new ≡ once texts.old (needed chains.now cache.old.entries (x5us screened.now.readings))) }
+    ensures held { OnOk result
+        (cache.new ≡ record cache.old { entries = touch_all (x5us screened.now.readings) cache.old.entries }) }
     ensures same { (x5u : List ℕ) → chain_of x5u cache.new.entries ≡ chain_of x5u cache.old.entries }
     ensures capacity { cache.new.capacity ≡ cache.old.capacity }
 {

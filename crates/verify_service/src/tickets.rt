@@ -40,7 +40,8 @@ impl Tickets {
         self.tickets.len()
     }
 
-    /// The index of this ticket, which is added after the others unless it is one of them. `AllocError` is the only error.
+    /// The index of this ticket, which is added after the others unless it is one of them. `AllocError` is the only
+    /// error.
     fn index_of(&mut self, ticket: &[u8; 32]) -> Result<usize, AllocError>
         ensures tickets { OnOk result (self.new ≡ once self.old (ticket.now ∷ [])) }
         ensures stands { IfOk result (λ index. slice_get self.new index ≡ Some ticket.now) }
@@ -52,8 +53,8 @@ impl Tickets {
     }
 }
 
-/// Gives each call that the rules of the call don't refuse the class of its ticket, and says how many classes there are. `AllocError` is the only
-/// error.
+/// Gives each call that the rules of the call don't refuse the class of its ticket, and says how many classes there
+/// are. `AllocError` is the only error.
 pub(crate) fn class_calls(alloc: Global, calls: &mut [ReadyCall]) -> Result<u32, AllocError>
     requires few { length calls.old ≤ 256 }
     ensures counted { length calls.new ≡ length calls.old }
@@ -67,12 +68,14 @@ pub(crate) fn class_calls(alloc: Global, calls: &mut [ReadyCall]) -> Result<u32,
     Ok(tickets.count() as u32)
 }
 
-/// The class of the ticket of a call that was screened so, if the rules of the call don't refuse it. `AllocError` is the only error.
+/// The class of the ticket of a call that was screened so, if the rules of the call don't refuse it. `AllocError` is
+/// the only error.
 fn class_of(tickets: &mut Tickets, screening: &Screening) -> Result<Option<u32>, AllocError>
     requires few { length tickets.old < 256 }
     ensures some { IfOk result (λ class. is_some class ≡ is_passed screening.now) }
     ensures tickets { OnOk result (tickets.new ≡ once tickets.old (tickets_in screening.now)) }
-    ensures stands { IfOk result (λ class. is_passed screening.now ≡ true → slice_get tickets.new (unwrap_or class 0) ≡ Some (ticket_in screening.now)) }
+    ensures stands { IfOk result (λ class. is_passed screening.now ≡ true
+        → slice_get tickets.new (unwrap_or class 0) ≡ Some (ticket_in screening.now)) }
 {
     match screening {
         Screening::Open => Ok(None),

@@ -16,8 +16,9 @@ use std::thread;
 use std::thread::Threads;
 use stir_outside::{Gate, Provider};
 
-/// Has each worker judge its calls with its seat, in a thread of its own; the last in the one that calls. Worker w, counted from 0, has the calls at index
-/// w, w + W and so on, if there are W workers. What it answers is at the index of the call in the worker's own place.
+/// Has each worker judge its calls with its seat, in a thread of its own; the last in the one that calls. Worker w,
+/// counted from 0, has the calls at index w, w + W and so on, if there are W workers. What it answers is at the index
+/// of the call in the worker's own place.
 pub(crate) fn work_all<R: Threads + Sync, P: Provider + Send, G: Gate + Send>(
     rt: &R,
     lent: &Lent<'_>,
@@ -29,13 +30,15 @@ pub(crate) fn work_all<R: Threads + Sync, P: Provider + Send, G: Gate + Send>(
     requires calls { length calls.now ≤ 256 }
     requires ready { AreAllReady (basis_of lent.now) lent.now.desk.now calls.now }
     requires parts { FailAtQuestions lent.now.kept.now }
-    requires seats { (w : ℕ) (d : _) → w < length workers.old → HasSeat lent.now.desk.now (slice_index_or workers.old w d).seat }
+    requires seats { (w : ℕ) (d : _) → w < length workers.old
+        → HasSeat lent.now.desk.now (slice_index_or workers.old w d).seat }
     ensures counted { length workers.new ≡ length workers.old }
-    ensures claimed { EachWorker workers.old workers.new (λ w before now. HasClaimed lent.now.past.now calls.now (length workers.old) w
-        before.seat now.seat now.outcomes) }
+    ensures claimed { EachWorker workers.old workers.new (λ w before now.
+        HasClaimed lent.now.past.now calls.now (length workers.old) w before.seat now.seat now.outcomes) }
     ensures answered { EachWorker workers.old workers.new (λ w before now. HasAnswered (basis_of lent.now)
         (provided P.Provider before.provider now.provider) calls.now (length workers.old) w now.outcomes) }
-    ensures provider { EachWorker workers.old workers.new (λ _ before now. ProviderStays P.Provider before.provider now.provider) }
+    ensures provider { EachWorker workers.old workers.new
+        (λ _ before now. ProviderStays P.Provider before.provider now.provider) }
 {
     let count = workers.len();
     thread::for_each_mut(
@@ -60,8 +63,10 @@ fn work<P: Provider, G: Gate>(
     requires ready { AreAllReady (basis_of lent.now) lent.now.desk.now calls.now }
     requires parts { FailAtQuestions lent.now.kept.now }
     requires seat { HasSeat lent.now.desk.now worker.old.seat }
-    ensures claimed { HasClaimed lent.now.past.now calls.now count index worker.old.seat worker.new.seat worker.new.outcomes }
-    ensures answered { HasAnswered (basis_of lent.now) (provided P.Provider worker.old.provider worker.new.provider) calls.now count index worker.new.outcomes }
+    ensures claimed { HasClaimed lent.now.past.now calls.now count index worker.old.seat
+        worker.new.seat worker.new.outcomes }
+    ensures answered { HasAnswered (basis_of lent.now) (provided P.Provider worker.old.provider worker.new.provider)
+        calls.now count index worker.new.outcomes }
     ensures provider { ProviderStays P.Provider worker.old.provider worker.new.provider }
 {
     let Some(mut seat) = worker.seat.take() else {
@@ -97,8 +102,10 @@ fn judge_calls<P: Provider, G: Gate>(
     requires ready { AreAllReady (basis_of lent.now) lent.now.desk.now calls.now }
     requires parts { FailAtQuestions lent.now.kept.now }
     requires seat { IsFresh lent.now.desk.now seat.old }
-    ensures claimed { Claimed lent.now.past.now calls.now count index (length calls.now) seat.old seat.new outcomes.new }
-    ensures answered { HasAnswered (basis_of lent.now) (provided P.Provider provider.old provider.new) calls.now count index outcomes.new }
+    ensures claimed { Claimed lent.now.past.now calls.now count index (length calls.now) seat.old
+        seat.new outcomes.new }
+    ensures answered { HasAnswered (basis_of lent.now) (provided P.Provider provider.old provider.new) calls.now
+        count index outcomes.new }
     ensures provider { ProviderStays P.Provider provider.old provider.new }
 {
     let number = index as u8;

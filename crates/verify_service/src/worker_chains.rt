@@ -12,8 +12,8 @@ use std::thread;
 use std::thread::Threads;
 use stir_outside::{Gate, Provider};
 
-/// Has each worker judge the chains of its texts, in a thread of its own. Worker w, counted from 0, has the texts at the places w, w + W and so
-/// on, if there are W workers.
+/// Has each worker judge the chains of its texts, in a thread of its own. Worker w, counted from 0, has the texts at
+/// the places w, w + W and so on, if there are W workers.
 pub(crate) fn judge_texts<R: Threads + Sync, P: Provider + Send, G: Gate + Send>(
     rt: &R,
     alloc: Global,
@@ -23,11 +23,13 @@ pub(crate) fn judge_texts<R: Threads + Sync, P: Provider + Send, G: Gate + Send>
 )
     requires some { 0 < length workers.old }
     ensures counted { length workers.new ≡ length workers.old }
-    ensures judged { EachWorker workers.old workers.new (λ w before now. EachOwnUnless now.out_of_memory world.now (P.says before.provider)
-        w (length workers.old) files.now now.judged.items) }
-    ensures asked { EachWorker workers.old workers.new (λ _ before now. CountedUnless now.out_of_memory
-        (P.asks before.provider) (P.asks now.provider) (P.faults before.provider) (P.faults now.provider) now.judged.items) }
-    ensures most { EachWorker workers.old workers.new (λ w before now. P.asks now.provider ≤ P.asks before.provider + own_sizes w (length workers.old) 0 files.now) }
+    ensures judged { EachWorker workers.old workers.new (λ w before now. EachOwnUnless now.out_of_memory world.now
+        (P.says before.provider) w (length workers.old) files.now now.judged.items) }
+    ensures asked { EachWorker workers.old workers.new
+        (λ _ before now. CountedUnless now.out_of_memory (P.asks before.provider) (P.asks now.provider)
+        (P.faults before.provider) (P.faults now.provider) now.judged.items) }
+    ensures most { EachWorker workers.old workers.new
+        (λ w before now. P.asks now.provider ≤ P.asks before.provider + own_sizes w (length workers.old) 0 files.now) }
     ensures provider { EachWorker workers.old workers.new (λ _ before now. ProviderStays P.Provider before.provider now.provider) }
 {
     let count = workers.len();
@@ -49,9 +51,10 @@ fn judge_own<P: Provider, G: Gate>(
     worker: &mut Worker<P, G>,
 )
     requires some { 0 < count }
-    ensures judged { EachOwnUnless worker.new.out_of_memory world.now (P.says worker.old.provider) index count files.now worker.new.judged.items }
-    ensures asked { CountedUnless worker.new.out_of_memory (P.asks worker.old.provider) (P.asks worker.new.provider) (P.faults worker.old.provider)
-        (P.faults worker.new.provider) worker.new.judged.items }
+    ensures judged { EachOwnUnless worker.new.out_of_memory world.now (P.says worker.old.provider) index count files.now
+        worker.new.judged.items }
+    ensures asked { CountedUnless worker.new.out_of_memory (P.asks worker.old.provider) (P.asks worker.new.provider)
+        (P.faults worker.old.provider) (P.faults worker.new.provider) worker.new.judged.items }
     ensures most { P.asks worker.new.provider ≤ P.asks worker.old.provider + own_sizes index count 0 files.now }
     ensures provider { ProviderStays P.Provider worker.old.provider worker.new.provider }
 {
@@ -68,8 +71,8 @@ fn judge_own<P: Provider, G: Gate>(
     worker.out_of_memory = judged.is_err();
 }
 
-/// Judges the chains of the worker's texts, in turn, into a list that is empty. `AllocError` is the only error. The provider is asked at most for
-/// each certificate of the worker's own, also if memory runs out.
+/// Judges the chains of the worker's texts, in turn, into a list that is empty. `AllocError` is the only error. The
+/// provider is asked at most for each certificate of the worker's own, also if memory runs out.
 pub(crate) fn judge_files<P: Provider>(
     alloc: Global,
     world: &World,
@@ -82,7 +85,8 @@ pub(crate) fn judge_files<P: Provider>(
     requires some { 0 < count }
     requires empty { judged.old.items ≡ [] }
     ensures judged { OnOk result (EachOwn world.now (P.says provider.old) index count 0 files.now judged.new.items) }
-    ensures asked { OnOk result (ChainsCounted (P.asks provider.old) (P.asks provider.new) (P.faults provider.old) (P.faults provider.new) judged.new.items) }
+    ensures asked { OnOk result (ChainsCounted (P.asks provider.old) (P.asks provider.new) (P.faults provider.old)
+        (P.faults provider.new) judged.new.items) }
     ensures most { P.asks provider.new ≤ P.asks provider.old + own_sizes index count 0 files.now }
     ensures asks { P.asks provider.old ≤ P.asks provider.new }
     ensures provider { ProviderStays P.Provider provider.old provider.new }

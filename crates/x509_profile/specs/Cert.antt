@@ -8,7 +8,8 @@ use Rattle.x509_profile.specs.Parts.{AnyElement, KeyText, SignatureText, Validit
 use Rattle.x509_profile.specs.Extended.{ExtensionsText}
 use Rattle.x509_profile.specs.View.{CertView, TbsView, ValidityView, Values, tbs_with, view_of}
 
--- The content of the signed part is version, serial number, algorithm, issuer, validity, subject, key and extensions, and it says what they say.
+-- The content of the signed part is version, serial number, algorithm, issuer, validity, subject, key and extensions,
+-- and it says what they say.
 pub record SignedText (content : List ℕ) (tbs : TbsView) : Type 0 where
   pub serial : List ℕ
   pub issuer : List ℕ
@@ -19,7 +20,8 @@ pub record SignedText (content : List ℕ) (tbs : TbsView) : Type 0 where
   pub point : List ℕ
   pub extensions : List ℕ
   pub values : Values
-  pub form : content ≡ version_text ++ (serial ++ (algorithm_text ++ (issuer ++ (validity ++ (subject ++ (key ++ extensions))))))
+  pub form : content ≡ version_text
+      ++ (serial ++ (algorithm_text ++ (issuer ++ (validity ++ (subject ++ (key ++ extensions))))))
   pub is_serial : AnyElement serial integer_tag
   pub is_issuer : AnyElement issuer sequence_tag
   pub is_validity : ValidityText validity times.not_before times.not_after
@@ -28,8 +30,8 @@ pub record SignedText (content : List ℕ) (tbs : TbsView) : Type 0 where
   pub is_extensions : ExtensionsText extensions values
   pub says : tbs ≡ tbs_with issuer times subject point values
 
--- The bytes are at most 8,192, and are one SEQUENCE of the signed part, the algorithm and the signature; the certificate says what they say, and has
--- the SHA-256 of the signed part.
+-- The bytes are at most 8,192, and are one SEQUENCE of the signed part, the algorithm and the signature; the
+-- certificate says what they say, and has the SHA-256 of the signed part.
 pub record Cert (bytes : List ℕ) (c : CertView) : Type 0 where
   pub size : length bytes ≤ 8192
   pub signed : List ℕ

@@ -1,5 +1,6 @@
 -- Certificates one after another, the leaf's first, as a chain file has them: this project's own format.
-use Rattle.std.specs.Prelude.{⊤, ◌≡◌, ℕ, ◌+◌, ◌-◌, ◌==◌, zero, suc, ◌≤◌, ◌⊎◌, List, [], ◌∷◌, ◌++◌, length, Option, Some, None, Result, Ok, Err, if◌then◌else◌}
+use Rattle.std.specs.Prelude.{⊤, ◌≡◌, ℕ, ◌+◌, ◌-◌, ◌==◌, zero, suc, ◌≤◌, ◌⊎◌, List, [], ◌∷◌, ◌++◌, length, Option, Some}
+use Rattle.std.specs.Prelude.{None, Result, Ok, Err, if◌then◌else◌}
 use Rattle.std.specs.List.{flat_map}
 use Rattle.lists.specs.Given as given
 use Rattle.lists.specs.Steps.{◌>>=◌}
@@ -28,7 +29,8 @@ pub record Chain (bytes : List ℕ) (certificates : List CertView) : Type 0 wher
 
 -- these bytes begin with no certificate
 abbrev pub HasNoFront : List ℕ → Type 0
-HasNoFront bytes = (certificate : CertView) (rest : List ℕ) → Cert certificate.whole certificate → bytes ≡ certificate.whole ++ rest → ⊥
+HasNoFront bytes = (certificate : CertView) (rest : List ℕ) → Cert certificate.whole certificate
+    → bytes ≡ certificate.whole ++ rest → ⊥
 
 -- the bytes begin with these certificates, of which there are at most six
 pub record BeginsWithCerts (bytes : List ℕ) (certificates : List CertView) : Type 0 where
@@ -75,7 +77,8 @@ front bytes = do
 
 -- the certificates so far, if no byte is left; else the next one is refused, at the first that is left
 abbrev pub ended : List ℕ → List CertView → List ℕ → Result (List CertView) RefusedCertificate
-ended bytes before left = if length left == 0 then Ok before else Err (refused_at (length before + 1) (length bytes - length left))
+ended bytes before left = if length left == 0 then Ok before
+    else Err (refused_at (length before + 1) (length bytes - length left))
 
 -- the certificates so far, and those with which what is left of the bytes begins, at most so many more
 abbrev pub certificates_from : List ℕ → ℕ → List CertView → List ℕ → Result (List CertView) RefusedCertificate
@@ -97,11 +100,13 @@ refused_seen (At number place) = Some (refused_at number place)
 refused_seen Memory = None
 
 -- the certificates, or the first that is refused, unless memory runs out
-abbrev pub GivesChain : {X : Type 0} → (X → List CertView) → Result X CertChainFault → Result (List CertView) RefusedCertificate → Type 0
+abbrev pub GivesChain : {X : Type 0} → (X → List CertView) → Result X CertChainFault
+    → Result (List CertView) RefusedCertificate → Type 0
 GivesChain seen result read = given.Gives refused_seen seen result read
 
 -- what is refused begins where the whole certificates end, and its number is one more than theirs
 abbrev pub EndsWhereRefused : {X : Type 0} → List ℕ → Result X CertChainFault → Type 0
 EndsWhereRefused bytes (Ok certificates) = ⊤
-EndsWhereRefused bytes (Err (At number place)) = EndsAt bytes (refused_at number place) × Whole bytes (number - 1) × (number ≤ 7)
+EndsWhereRefused bytes (Err (At number place)) =
+    EndsAt bytes (refused_at number place) × Whole bytes (number - 1) × (number ≤ 7)
 EndsWhereRefused bytes (Err Memory) = ⊤

@@ -11,7 +11,8 @@ use Rattle.der_reader.specs.Integer.{scalar_of}
 use Rattle.der_reader.specs.Optional.{flag_of, limit_of}
 use Rattle.der_reader.specs.Next.{next_at, optional_at, pair_at, sole_at}
 use Rattle.der_reader.specs.Time.{time_of}
-use Rattle.der_reader.specs.Tags.{boolean_tag, integer_tag, bit_string_tag, octet_string_tag, object_identifier_tag, sequence_tag}
+use Rattle.der_reader.specs.Tags.{boolean_tag, integer_tag, bit_string_tag, octet_string_tag, object_identifier_tag}
+use Rattle.der_reader.specs.Tags.{sequence_tag}
 use Rattle.x509_profile.specs.declared.contents.Extension.{Extension}
 use Rattle.x509_profile.specs.View.{BasicView, ExtensionView, ValidityView}
 use Rattle.x509_profile.specs.Extended.{key_identifier_tag}
@@ -59,7 +60,8 @@ extension_of text = do
   flag ← optional_at boolean_tag oid.1
   critical ← flag_of flag.0
   octets ← sole_at octet_string_tag flag.1
-  if oid.0.tag == object_identifier_tag then Ok (record { oid = oid.0.content; critical = critical; octets = octets }) else Err bad_value
+  if oid.0.tag == object_identifier_tag
+      then Ok (record { oid = oid.0.content; critical = critical; octets = octets }) else Err bad_value
 
 -- without the place of its content
 abbrev pub extension_view : ExtensionRead → ExtensionView
@@ -67,7 +69,8 @@ extension_view read = record { oid = read.oid; critical = read.critical; value =
 
 -- how clauses see an extension that was read
 abbrev pub extension_read : Extension → ExtensionRead
-extension_read extension = record { oid = extension.oid.now; critical = extension.critical; octets = element_of extension.octets }
+extension_read extension =
+    record { oid = extension.oid.now; critical = extension.critical; octets = element_of extension.octets }
 
 -- a validity: a SEQUENCE of two times (section 4.1.2.5)
 unfoldable pub validity_of : List ℕ → Result ValidityView DerFault
@@ -77,8 +80,8 @@ validity_of text = do
   not_after ← time_of times.1.tag times.1.content
   Ok (record { not_before = not_before; not_after = not_after })
 
--- the two numbers of a signature, 32 bytes each: the BIT STRING of a SEQUENCE of two INTEGERs (section 4.1.1.3, RFC 5480
--- appendix A)
+-- the two numbers of a signature, 32 bytes each: the BIT STRING of a SEQUENCE of two INTEGERs (section 4.1.1.3, RFC
+-- 5480 appendix A)
 unfoldable pub signature_of : List ℕ → Result (List ℕ) DerFault
 signature_of text = do
   string ← sole_at bit_string_tag text

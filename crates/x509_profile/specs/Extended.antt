@@ -7,10 +7,12 @@ use Rattle.der_reader.specs.BitString.{flags_of}
 use Rattle.der_reader.specs.Each.{ComeTo, OneAfterAnother}
 use Rattle.der_reader.specs.Elem.{Elem, Element, MayBeginWith}
 use Rattle.der_reader.specs.Optional.{IsFlag, IsLimit}
-use Rattle.der_reader.specs.Tags.{boolean_tag, integer_tag, bit_string_tag, octet_string_tag, object_identifier_tag, sequence_tag}
+use Rattle.der_reader.specs.Tags.{boolean_tag, integer_tag, bit_string_tag, octet_string_tag, object_identifier_tag}
+use Rattle.der_reader.specs.Tags.{sequence_tag}
 use Rattle.tn_auth_list.specs.declared.entries.Entry.{Entry}
 use Rattle.tn_auth_list.specs.ListText.{ListText}
-use Rattle.x509_profile.specs.ExtensionId.{ExtensionName, BasicConstraints, KeyUsage, SubjectKey, AuthorityKey, AuthorityList, ClaimConstraints, EnhancedConstraints, Unknown, IsNamed}
+use Rattle.x509_profile.specs.ExtensionId.{ExtensionName, BasicConstraints, KeyUsage, SubjectKey, AuthorityKey}
+use Rattle.x509_profile.specs.ExtensionId.{AuthorityList, ClaimConstraints, EnhancedConstraints, Unknown, IsNamed}
 use Rattle.x509_profile.specs.View.{BasicView, ExtensionView, Values, no_values}
 
 -- basicConstraints: a SEQUENCE of cA and the path length, either of which may be absent (section 4.2.1.9)
@@ -35,7 +37,8 @@ pub record UsageText (value : List ℕ) (usage : ℕ) : Type 0 where
 abbrev pub key_identifier_tag : ℕ
 key_identifier_tag = 0x80
 
--- authorityKeyIdentifier: a SEQUENCE, which may begin with the key identifier; what follows is passed over (section 4.2.1.1)
+-- authorityKeyIdentifier: a SEQUENCE, which may begin with the key identifier; what follows is passed over (section
+-- 4.2.1.1)
 pub record AuthorityText (value : List ℕ) (key : Option (List ℕ)) : Type 0 where
   pub content : List ℕ
   pub identifier : Option Element
@@ -60,22 +63,24 @@ pub record ExtensionText (text : List ℕ) (extension : ExtensionView) : Type 0 
 pub record SubjectKeyText (value : List ℕ) (key : List ℕ) : Type 0 where
   pub elem : Elem value octet_string_tag key
 
--- What one more extension adds to what those before it say, by its name. An extension of the profile comes once, and its content says something.
--- The enhanced constraints on claims may not come (RFC 9118, section 4), and another extension is passed over, if it isn't critical.
+-- What one more extension adds to what those before it say, by its name. An extension of the profile comes once, and
+-- its content says something. The enhanced constraints on claims may not come (RFC 9118, section 4), and another
+-- extension is passed over, if it isn't critical.
 abbrev pub AddsAs : ExtensionName → Values → ExtensionView → Values → Type 0
-AddsAs BasicConstraints before view values =
-    (before.basic ≡ None) × (basic : BasicView) × BasicText view.value basic × (values ≡ record before { basic = Some basic })
-AddsAs KeyUsage before view values = (before.usage ≡ None) × (usage : ℕ) × UsageText view.value usage × (values ≡ record before { usage = Some usage })
-AddsAs SubjectKey before view values =
-    (before.subject_key ≡ None) × (key : List ℕ) × SubjectKeyText view.value key × (values ≡ record before { subject_key = Some key })
-AddsAs AuthorityKey before view values =
-    (before.authority ≡ None) × (key : Option (List ℕ)) × AuthorityText view.value key × (values ≡ record before { authority = Some key })
+AddsAs BasicConstraints before view values = (before.basic ≡ None) × (basic : BasicView) × BasicText view.value basic
+    × (values ≡ record before { basic = Some basic })
+AddsAs KeyUsage before view values =
+    (before.usage ≡ None) × (usage : ℕ) × UsageText view.value usage × (values ≡ record before { usage = Some usage })
+AddsAs SubjectKey before view values = (before.subject_key ≡ None) × (key : List ℕ) × SubjectKeyText view.value key
+    × (values ≡ record before { subject_key = Some key })
+AddsAs AuthorityKey before view values = (before.authority ≡ None) × (key : Option (List ℕ))
+    × AuthorityText view.value key × (values ≡ record before { authority = Some key })
 -- the telephone number authorization list (RFC 8226, section 9)
-AddsAs AuthorityList before view values =
-    (before.list ≡ None) × (list : List Entry) × ListText view.value list × (values ≡ record before { list = Some list })
+AddsAs AuthorityList before view values = (before.list ≡ None) × (list : List Entry) × ListText view.value list
+    × (values ≡ record before { list = Some list })
 -- the constraints on claims (RFC 8226, section 8), in this project's own form
-AddsAs ClaimConstraints before view values =
-    (before.constraints ≡ None) × (constraints : ConstraintsView) × ConstraintsText view.value constraints × (values ≡ record before { constraints = Some constraints })
+AddsAs ClaimConstraints before view values = (before.constraints ≡ None) × (constraints : ConstraintsView)
+    × ConstraintsText view.value constraints × (values ≡ record before { constraints = Some constraints })
 AddsAs EnhancedConstraints before view values = ⊥
 AddsAs Unknown before view values = (view.critical ≡ false) × (values ≡ before)
 

@@ -23,8 +23,8 @@ certificate_extension n = 0x55 ∷ 0x1D ∷ n ∷ []
 abbrev pub private_extension : ℕ → List ℕ
 private_extension n = 0x2B ∷ 0x06 ∷ 0x01 ∷ 0x05 ∷ 0x05 ∷ 0x07 ∷ 0x01 ∷ n ∷ []
 
--- the OID is that of an extension of this name (RFC 5280, sections 4.2.1.9, 4.2.1.3, 4.2.1.2 and 4.2.1.1; RFC 8226, sections 9 and 8, and RFC 9118,
--- section 4), or of none that has one
+-- the OID is that of an extension of this name (RFC 5280, sections 4.2.1.9, 4.2.1.3, 4.2.1.2 and 4.2.1.1; RFC 8226,
+-- sections 9 and 8, and RFC 9118, section 4), or of none that has one
 abbrev pub IsNamed : List ℕ → ExtensionName → Type 0
 IsNamed oid BasicConstraints = oid ≡ certificate_extension 19
 IsNamed oid KeyUsage = oid ≡ certificate_extension 15
@@ -33,9 +33,9 @@ IsNamed oid AuthorityKey = oid ≡ certificate_extension 35
 IsNamed oid AuthorityList = oid ≡ private_extension 26
 IsNamed oid ClaimConstraints = oid ≡ private_extension 27
 IsNamed oid EnhancedConstraints = oid ≡ private_extension 33
-IsNamed oid Unknown =
-    (oid ≢ certificate_extension 19) × (oid ≢ certificate_extension 15) × (oid ≢ certificate_extension 14) × (oid ≢ certificate_extension 35)
-    × (oid ≢ private_extension 26) × (oid ≢ private_extension 27) × (oid ≢ private_extension 33)
+IsNamed oid Unknown = (oid ≢ certificate_extension 19) × (oid ≢ certificate_extension 15)
+    × (oid ≢ certificate_extension 14) × (oid ≢ certificate_extension 35) × (oid ≢ private_extension 26)
+    × (oid ≢ private_extension 27) × (oid ≢ private_extension 33)
 
 -- the name of the extension that has this OID
 unfoldable pub name_of : List ℕ → ExtensionName

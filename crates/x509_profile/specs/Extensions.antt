@@ -8,7 +8,8 @@ use Rattle.der_reader.specs.Tags.{sequence_tag}
 use Rattle.claim_constraints.specs.Read.{read_constraints}
 use Rattle.tn_auth_list.specs.Read.{read_list}
 use Rattle.x509_profile.specs.Contents.{ExtensionRead, authority_of, basic_of, extension_of, subject_key_of, usage_of}
-use Rattle.x509_profile.specs.ExtensionId.{ExtensionName, BasicConstraints, KeyUsage, SubjectKey, AuthorityKey, AuthorityList, ClaimConstraints, EnhancedConstraints, Unknown, name_of}
+use Rattle.x509_profile.specs.ExtensionId.{ExtensionName, BasicConstraints, KeyUsage, SubjectKey, AuthorityKey}
+use Rattle.x509_profile.specs.ExtensionId.{AuthorityList, ClaimConstraints, EnhancedConstraints, Unknown, name_of}
 use Rattle.x509_profile.specs.Fault.{fault_at}
 use Rattle.x509_profile.specs.View.{Values, no_values}
 use Rattle.x509_profile.specs.Extended.{extensions_tag}
@@ -18,18 +19,24 @@ abbrev pub filled : {A : Type 0} → Option A → Result A Fault → Fault → R
 filled None said twice = said >>= λ value. Ok (Some value)
 filled (Some before) said twice = Err twice
 
--- What the extensions say with one more of this name, which begins at the first place, and the OCTET STRING of its content at the second.
+-- What the extensions say with one more of this name, which begins at the first place, and the OCTET STRING of its
+-- content at the second.
 abbrev pub values_by : ExtensionName → Values → ExtensionRead → ℕ → ℕ → Result Values Fault
 values_by BasicConstraints values read place inner =
-    filled values.basic (or_broken (basic_of read.octets.content) (fault_at 1 place)) (fault_at 1 place) >>= λ basic. Ok (record values { basic = basic })
+    filled values.basic (or_broken (basic_of read.octets.content) (fault_at 1 place)) (fault_at 1 place) >>= λ basic.
+    Ok (record values { basic = basic })
 values_by KeyUsage values read place inner =
-    filled values.usage (or_broken (usage_of read.octets.content) (fault_at 1 place)) (fault_at 1 place) >>= λ usage. Ok (record values { usage = usage })
+    filled values.usage (or_broken (usage_of read.octets.content) (fault_at 1 place)) (fault_at 1 place) >>= λ usage.
+    Ok (record values { usage = usage })
 values_by SubjectKey values read place inner =
-    filled values.subject_key (or_broken (subject_key_of read.octets.content) (fault_at 1 place)) (fault_at 1 place) >>= λ key. Ok (record values { subject_key = key })
+    filled values.subject_key (or_broken (subject_key_of read.octets.content) (fault_at 1 place)) (fault_at 1 place) >>=
+    λ key. Ok (record values { subject_key = key })
 values_by AuthorityKey values read place inner =
-    filled values.authority (or_broken (authority_of read.octets.content) (fault_at 1 place)) (fault_at 1 place) >>= λ key. Ok (record values { authority = key })
+    filled values.authority (or_broken (authority_of read.octets.content) (fault_at 1 place)) (fault_at 1 place) >>=
+    λ key. Ok (record values { authority = key })
 values_by AuthorityList values read place inner =
-    filled values.list (or_broken (read_list read.octets.content) (fault_at 8 inner)) (fault_at 1 place) >>= λ list. Ok (record values { list = list })
+    filled values.list (or_broken (read_list read.octets.content) (fault_at 8 inner)) (fault_at 1 place) >>= λ list.
+    Ok (record values { list = list })
 values_by ClaimConstraints values read place inner =
     filled values.constraints (or_broken (read_constraints read.octets.content) (fault_at 7 inner)) (fault_at 1 place)
     >>= λ constraints. Ok (record values { constraints = constraints })

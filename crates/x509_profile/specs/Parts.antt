@@ -27,8 +27,8 @@ pub record KeyText (text : List ℕ) (point : List ℕ) : Type 0 where
   pub size : length coordinates ≡ 64
   pub value : point ≡ 0x04 ∷ coordinates
 
--- a signature: a BIT STRING without unused bits, whose bytes are a SEQUENCE of two INTEGERs from 0 up to 2 ^ 256 - 1, which are 32 bytes each
--- (section 4.1.1.3, RFC 5480 appendix A)
+-- a signature: a BIT STRING without unused bits, whose bytes are a SEQUENCE of two INTEGERs from 0 up to 2 ^ 256 - 1,
+-- which are 32 bytes each (section 4.1.1.3, RFC 5480 appendix A)
 pub record SignatureText (text : List ℕ) (signature : List ℕ) : Type 0 where
   pub content : List ℕ
   pub bits : List ℕ

@@ -1,6 +1,6 @@
--- Why bytes are no certificate of the profile, by kind and place: the first of its parts, in the order in which they come, that isn't as the
--- profile has it (RFC 5280, section 4.1). The kinds are this project's own: 1 an element, 2 the version, 3 an algorithm, 4 the key, 5 the validity,
--- 6 to 8 an extension, 9 the signature.
+-- Why bytes are no certificate of the profile, by kind and place: the first of its parts, in the order in which they
+-- come, that isn't as the profile has it (RFC 5280, section 4.1). The kinds are this project's own: 1 an element, 2 the
+-- version, 3 an algorithm, 4 the key, 5 the validity, 6 to 8 an extension, 9 the signature.
 use Rattle.std.specs.Prelude.{◌≡◌, ◌⊎◌, ℕ, ℤ, ◌<◌, ◌≤◌, List, length, Result, Ok, Err}
 use Rattle.der_reader.specs.declared.part.Fault.{Fault}
 use Rattle.der_reader.specs.Broken.{Behind, First, Followed, IsTagged, LeftOver, Through, Unless, Within}
@@ -38,8 +38,8 @@ IsSigned content = (tbs : TbsView) × SignedText content tbs
 
 -- ---- the first that isn't
 
--- In the signed part: version, serial number, algorithm, issuer, validity, subject and key, each with the kind of the fault that another element in
--- its place is; and the extensions.
+-- In the signed part: version, serial number, algorithm, issuer, validity, subject and key, each with the kind of the
+-- fault that another element in its place is; and the extensions.
 abbrev pub WrongSigned : PartView → Fault → Type 0
 WrongSigned =
     Followed (IsText version_text) 2
@@ -54,7 +54,8 @@ WrongSigned =
 abbrev pub WrongSignature : PartView → Fault → Type 0
 WrongSignature = Followed (λ item. IsSignature item.whole) 9 LeftOver
 
--- In the certificate: the signed part, the algorithm, and the signature up to the end; and nothing may come after the certificate.
+-- In the certificate: the signed part, the algorithm, and the signature up to the end; and nothing may come after the
+-- certificate.
 abbrev pub WrongCertificate : ItemView → Fault → Type 0
 WrongCertificate certificate =
     First (Unless (IsTagged sequence_tag) 1 (Within WrongSigned IsSigned
@@ -62,7 +63,8 @@ WrongCertificate certificate =
     (Through WrongSignature IsSignature (LeftOver certificate.behind))))))
     certificate.content
 
--- The bytes are no certificate, and this is their first fault: they are more than 8,192, or something in them isn't as it has to be.
+-- The bytes are no certificate, and this is their first fault: they are more than 8,192, or something in them isn't as
+-- it has to be.
 abbrev pub Refused : List ℕ → Fault → Type 0
 Refused bytes fault =
     ((8192 < length bytes) × (fault ≡ at_kind 1 8192))

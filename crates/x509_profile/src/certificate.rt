@@ -66,13 +66,15 @@ impl Certificate {
         ensures unique { (a b : CertView) → Cert bytes.now a → Cert bytes.now b → a ≡ b }
 
         // Each other answer is the first fault of the bytes, and their first fault is the answer.
-        ensures refused { (fault : Fault) → Refused bytes.now fault → Gives (λ certificate. certificate) result (Err fault) }
+        ensures refused { (fault : Fault) → Refused bytes.now fault
+            → Gives (λ certificate. certificate) result (Err fault) }
         ensures only_refused { IsRefused bytes.now result }
 
         // A prefix of a certificate ends too early, and bytes after one are left over.
-        ensures cut_short { (whole more : List ℕ) (c : CertView) → Cert whole c → whole ≡ bytes.now ++ more → 1 ≤ length more
-            → Gives (λ certificate. certificate) result (Err (fault_at 1 (length bytes.now))) }
-        ensures left_over { (whole more : List ℕ) (c : CertView) → Cert whole c → bytes.now ≡ whole ++ more → 1 ≤ length more → length bytes.now ≤ 8192
+        ensures cut_short { (whole more : List ℕ) (c : CertView) → Cert whole c → whole ≡ bytes.now ++ more
+            → 1 ≤ length more → Gives (λ certificate. certificate) result (Err (fault_at 1 (length bytes.now))) }
+        ensures left_over { (whole more : List ℕ) (c : CertView) → Cert whole c → bytes.now ≡ whole ++ more
+            → 1 ≤ length more → length bytes.now ≤ 8192
             → Gives (λ certificate. certificate) result (Err (fault_at 1 (length whole))) }
 
         ensures place { IsPlacedUpTo (length bytes.now) result }

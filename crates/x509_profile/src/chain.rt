@@ -71,8 +71,8 @@ impl Error for CertChainFault {}
 
 /// The certificates that the bytes are, one after another without anything between, the leaf's first: at most six.
 ///
-/// That a chain is so written, and that it has at most six certificates, is this project's own rule. The fault is the first
-/// certificate that isn't one of the profile, or a seventh. No bytes are no certificates.
+/// That a chain is so written, and that it has at most six certificates, is this project's own rule. The fault is the
+/// first certificate that isn't one of the profile, or a seventh. No bytes are no certificates.
 #[tactic(auto, using(crate::proofs::ChainLaws::chain_again, crate::proofs::ChainLaws::chain_found, crate::proofs::ChainLaws::answer_ends))]
 pub fn read_chain(alloc: Global, bytes: &[u8]) -> Result<Vec<Certificate>, CertChainFault>
     // The certificates, or which is refused and where.
@@ -80,7 +80,8 @@ pub fn read_chain(alloc: Global, bytes: &[u8]) -> Result<Vec<Certificate>, CertC
 
     // An answer is the chain that the bytes are, and the one that they are is the answer.
     ensures found { IfOk result (λ certificates. Chain bytes.now certificates.items) }
-    ensures only { (chain : List CertView) → Chain bytes.now chain → GivesChain (λ certificates. certificates.items) result (Ok chain) }
+    ensures only { (chain : List CertView) → Chain bytes.now chain
+        → GivesChain (λ certificates. certificates.items) result (Ok chain) }
 
     // The bytes are one chain at most.
     ensures unique { (a b : List CertView) → Chain bytes.now a → Chain bytes.now b → a ≡ b }

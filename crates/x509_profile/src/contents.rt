@@ -1,11 +1,12 @@
-//! What is within a part of a certificate (RFC 5280, sections 4.1 and 4.2.1). Whoever calls a reader says which fault it
-//! is, and where, if a content isn't of its form.
+//! What is within a part of a certificate (RFC 5280, sections 4.1 and 4.2.1). Whoever calls a reader says which fault
+//! it is, and where, if a content isn't of its form.
 
 ghost use Rattle.std.specs.Prelude.{◌≡◌, ◌≤◌, length, IfOk, IfErr};
 ghost use Rattle.std.specs.Option.{option_map};
 ghost use Rattle.der_reader.specs.Elem.{element_of};
 ghost use Rattle.der_reader.specs.Part.{or_broken};
-ghost use Rattle.x509_profile.specs.Contents.{authority_of, basic_of, extension_of, extension_read, subject_key_of, usage_of, validity_of};
+ghost use Rattle.x509_profile.specs.Contents.{authority_of, basic_of, extension_of, extension_read, subject_key_of};
+ghost use Rattle.x509_profile.specs.Contents.{usage_of, validity_of};
 ghost use Rattle.x509_profile.specs.Fault.{Gives, IsPlacedUpTo};
 ghost use Rattle.x509_profile.specs.View.{seen};
 
@@ -121,8 +122,8 @@ pub(crate) fn read_subject_key(
     Ok(Octets::copy(alloc, string.content)?)
 }
 
-/// The identifier of the issuer's key in an authority key identifier, if it has one: a SEQUENCE, of which what follows its
-/// first element is passed over (RFC 5280, section 4.2.1.1).
+/// The identifier of the issuer's key in an authority key identifier, if it has one: a SEQUENCE, of which what follows
+/// its first element is passed over (RFC 5280, section 4.2.1.1).
 #[tactic(auto, unfolding(crate::specs::Contents::authority_of))]
 pub(crate) fn read_authority(
     alloc: Global,

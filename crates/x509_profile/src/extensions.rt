@@ -44,12 +44,19 @@ impl Model for KnownExtensions {
 
     ghost Value = { Values };
 
-    ghost view = { λ k. record { basic = k.basic; usage = k.usage; subject_key = k.subject_key; authority = k.authority; list = k.list; constraints = k.constraints } };
+    ghost view = { λ k. record {
+      basic = k.basic;
+      usage = k.usage;
+      subject_key = k.subject_key;
+      authority = k.authority;
+      list = k.list;
+      constraints = k.constraints;
+    } };
 }
 
 impl KnownExtensions {
-    /// The extensions that may come there, after the key and up to the end of the signed part: by their explicit tag, one
-    /// SEQUENCE, and nothing after it.
+    /// The extensions that may come there, after the key and up to the end of the signed part: by their explicit tag,
+    /// one SEQUENCE, and nothing after it.
     #[tactic(auto, unfolding(crate::specs::Extensions::optional_in, crate::specs::Extensions::marked_in))]
     pub fn read(alloc: Global, part: &Part) -> Result<KnownExtensions, CertFault>
         ensures exact { Gives (λ known. known) result (optional_in (part_of part.now)) }

@@ -32,7 +32,8 @@ impl CertFault {
     pub const TIME: u8 = 5;
     /// A critical extension isn't known (RFC 5280, section 4.2).
     pub const CRITICAL: u8 = 6;
-    /// The constraints on claims can't be read (RFC 8226, section 8), or they are enhanced ones (RFC 9118), which the profile doesn't have.
+    /// The constraints on claims can't be read (RFC 8226, section 8), or they are enhanced ones (RFC 9118), which the
+    /// profile doesn't have.
     pub const CONSTRAINT: u8 = 7;
     /// The telephone number authorization list can't be read (RFC 8226, section 9).
     pub const LIST: u8 = 8;

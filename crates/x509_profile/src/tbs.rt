@@ -54,7 +54,13 @@ impl Model for TbsCertificate {
 
     ghost Value = { TbsView };
 
-    ghost view = { λ t. record { issuer = t.issuer; validity = t.validity; subject = t.subject; key = t.key; extensions = t.extensions } };
+    ghost view = { λ t. record {
+      issuer = t.issuer;
+      validity = t.validity;
+      subject = t.subject;
+      key = t.key;
+      extensions = t.extensions;
+    } };
 }
 
 impl TbsCertificate {
@@ -89,7 +95,8 @@ impl TbsCertificate {
     }
 }
 
-/// What comes after the first element, which has to be this text. Another element is a fault of this kind where it begins.
+/// What comes after the first element, which has to be this text. Another element is a fault of this kind where it
+/// begins.
 #[tactic(auto, unfolding(crate::specs::Read::behind_text))]
 pub(crate) fn behind_text<'a>(part: &Part<'a>, text: &[u8], kind: u8) -> Result<Part<'a>, Fault>
     ensures exact { seen part_of result ≡ behind_text text.now kind (part_of part.now) }

@@ -1,4 +1,5 @@
-ghost use Rattle.std.specs.Prelude.{◌≡◌, ◌≢◌, ℕ, ◌+◌, ◌<◌, ◌≤◌, None, Err, IfOk, IfSome, is_ok, length, vec_len, if◌then◌else◌};
+ghost use Rattle.std.specs.Prelude.{◌≡◌, ◌≢◌, ℕ, ◌+◌, ◌<◌, ◌≤◌, None, Err, IfOk, IfSome, is_ok, length, vec_len};
+ghost use Rattle.std.specs.Prelude.{if◌then◌else◌};
 ghost use Rattle.stir_outside.specs.Count.{Rose, one_more};
 ghost use Rattle.stir_outside.specs.Files.{CountsGoOn, tries};
 ghost use Rattle.stir_outside.specs.Shelf.{counted};

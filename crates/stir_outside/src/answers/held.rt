@@ -16,7 +16,8 @@ use std::marker::Model;
 use std::thread::Threads;
 use text_grammar::{Line, Lines, words_law};
 
-/// How many bytes a `confirm` line has without its end: its four words, three of them in hex digits, with a space between each two.
+/// How many bytes a `confirm` line has without its end: its four words, three of them in hex digits, with a space
+/// between each two.
 const CONFIRM_LINE: usize = 332;
 
 /// Why a text is no answers file.
@@ -233,7 +234,8 @@ impl Answers {
 
     /// A provider that gives these answers, whose listed calls fail, counted from 1 over both kinds of calls.
     pub fn provider(&self, failing: &[u64]) -> Result<AnswerProvider<'_>, AllocError>
-        ensures { IfOk result (λ provider. provider ≡ record { held = self.now; failing = failing.now; asks = 0; faults = 0; sign_faults = 0 }) }
+        ensures { IfOk result (λ provider.
+            provider ≡ record { held = self.now; failing = failing.now; asks = 0; faults = 0; sign_faults = 0 }) }
     {
         let failing = Vec::from_slice(self.alloc, failing)?;
         Ok(AnswerProvider::new(self, failing))

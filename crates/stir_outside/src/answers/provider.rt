@@ -24,7 +24,13 @@ impl<'a> Model for AnswerProvider<'a> {
 
     ghost Value = { ProviderState };
 
-    ghost view = { λ p. record { held = p.answers.now; failing = p.failing.items; asks = p.asks; faults = p.faults; sign_faults = p.sign_faults } };
+    ghost view = { λ p. record {
+      held = p.answers.now;
+      failing = p.failing.items;
+      asks = p.asks;
+      faults = p.faults;
+      sign_faults = p.sign_faults;
+    } };
 }
 
 impl<'a> AnswerProvider<'a> {
@@ -32,7 +38,8 @@ impl<'a> AnswerProvider<'a> {
 
     /// A provider of these answers whose listed calls fail.
     pub(crate) fn new(answers: &'a Answers, failing: Vec<u64>) -> AnswerProvider<'a>
-        ensures { result ≡ record { held = answers.now; failing = failing.items; asks = 0; faults = 0; sign_faults = 0 } }
+        ensures { result
+            ≡ record { held = answers.now; failing = failing.items; asks = 0; faults = 0; sign_faults = 0 } }
     {
         AnswerProvider {
             answers,

@@ -56,7 +56,8 @@ fn read_each<R: Threads + Sync>(
     requires some { 0 < threads }
     requires counted { length rows.old ≡ length stretch.now }
     ensures counted { length rows.new ≡ length stretch.now }
-    ensures each { (at : ℕ) (row : Option Row) → at < length stretch.now → IsRowAt stretch.now at (slice_index_or rows.new at row) }
+    ensures each { (at : ℕ) (row : Option Row) → at < length stretch.now
+        → IsRowAt stretch.now at (slice_index_or rows.new at row) }
 {
     thread::for_each_mut(rt, rows, threads, &|at, row| { read_row(stretch, at, row) });
 }

@@ -1,4 +1,5 @@
-ghost use Rattle.std.specs.Prelude.{◌≡◌, ℕ, ◌+◌, ◌≤◌, Option, Some, None, Err, IfOk, is_ok, vec_len, map, false, if◌then◌else◌};
+ghost use Rattle.std.specs.Prelude.{◌≡◌, ℕ, ◌+◌, ◌≤◌, Option, Some, None, Err, IfOk, is_ok, vec_len, map, false};
+ghost use Rattle.std.specs.Prelude.{if◌then◌else◌};
 ghost use Rattle.std.specs.Option.{option_copied};
 ghost use Rattle.stir_outside.specs.Count.{Rose, one_more};
 ghost use Rattle.stir_outside.specs.Files.{CountsGoOn, OfFile, IsLonger, bytes_of, file, tries};
@@ -94,14 +95,16 @@ impl Shelf for ShelfMem {
     fn read(&mut self, alloc: Global, name: &str, limit: usize) -> Result<Vec<u8>, ShelfFault>
         ensures same { Some self.new.files ≡ Some self.old.files }
         ensures go_on { CountsGoOn self.old.counts self.new.counts }
-        ensures reads { self.new.counts.reads ≡ (if is_ok result then one_more self.old.counts.reads else self.old.counts.reads) }
+        ensures reads { self.new.counts.reads ≡ (if is_ok result then one_more self.old.counts.reads
+            else self.old.counts.reads) }
         ensures tries { tries self.new.counts ≤ tries self.old.counts + 1 }
 
         ensures within { IfOk result (λ bytes. vec_len bytes ≤ limit) }
         ensures found { IfOk result (λ bytes. OfFile (Some self.old.files) name.now (λ held. held ≡ Some bytes.items)) }
 
         ensures missing_rose { result ≡ Err ShelfFault.Missing → Rose self.old.counts.misses self.new.counts.misses }
-        ensures missing { result ≡ Err ShelfFault.Missing → OfFile (Some self.old.files) name.now (λ held. held ≡ None) }
+        ensures missing { result ≡ Err ShelfFault.Missing
+            → OfFile (Some self.old.files) name.now (λ held. held ≡ None) }
 
         ensures long_rose { result ≡ Err ShelfFault.Long → Rose self.old.counts.longs self.new.counts.longs }
         ensures long { result ≡ Err ShelfFault.Long → OfFile (Some self.old.files) name.now (IsLonger limit) }
@@ -111,8 +114,10 @@ impl Shelf for ShelfMem {
         // Exactly the listed calls fail; of any other the file decides.
         ensures fails { is_failed result ≡ is_failing self.old.calls self.old.failing }
         ensures counted { self.new.counts ≡ counted self.old.counts result }
-        ensures absent { is_failed result ≡ false → file name.now self.old.files ≡ None → result ≡ Err ShelfFault.Missing }
-        ensures too_long { is_failed result ≡ false → IsLonger limit (file name.now self.old.files) → result ≡ Err ShelfFault.Long }
+        ensures absent { is_failed result ≡ false → file name.now self.old.files ≡ None
+            → result ≡ Err ShelfFault.Missing }
+        ensures too_long { is_failed result ≡ false → IsLonger limit (file name.now self.old.files)
+            → result ≡ Err ShelfFault.Long }
         ensures calls { self.new.calls ≡ one_more self.old.calls }
         ensures failing { self.new.failing ≡ self.old.failing }
     {

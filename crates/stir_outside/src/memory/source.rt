@@ -24,7 +24,13 @@ impl Model for SourceMem {
 
     ghost Value = { SourceState };
 
-    ghost view = { λ s. record { left = drop s.taken s.bytes.items; calls = s.calls; failing = s.failing.items; faults = s.faults; reads = s.reads } };
+    ghost view = { λ s. record {
+      left = drop s.taken s.bytes.items;
+      calls = s.calls;
+      failing = s.failing.items;
+      faults = s.faults;
+      reads = s.reads;
+    } };
 
     ghost invariant = { λ s. s.taken ≤ vec_len s.bytes };
 }
