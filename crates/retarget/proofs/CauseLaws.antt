@@ -9,8 +9,10 @@ use Rattle.sip_message.specs.Message.{MessageView}
 use Rattle.sip_message.specs.Reading.{read}
 use Rattle.sip_message.specs.Target.{targeted, to_uri, with_uri}
 use Rattle.sip_message.specs.declared.fault.FormFault.{FormFault}
+use Rattle.delegation.specs.Coverage.{Covers}
 use Rattle.passport_json.specs.Spelled.{IsSignature}
 use Rattle.passport_claims.specs.Passport.{ClaimsView}
+use Rattle.passport_claims.specs.declared.kind.Kind.TheVariants as kinds
 use Rattle.verify_rules.specs.Call.{Reading}
 use Rattle.verify_rules.specs.LateWords.{CoversKind}
 use Rattle.auth_service.specs.Causes.{IsMisformed, IsOrdered, misformed, no_invite, no_message, other_date, too_long, unauthorized}
@@ -127,6 +129,11 @@ numbered laws bytes message earlier readings hop moved k m u = of u.missing wher
       let e = one_message laws bytes message hop moved u.message m u.invite.head in
       let both : ◌≡◌ {A = Option (List ℕ)} (Some k.number) None = sym k.onward.leads.gives ∙ sym (ap (λ (x : MessageView). uri_number x.uri hop.local) e) ∙ none in absurd cc
 
+-- a PASSporT of a diversion has no attestation, so nothing but its diverted number may be covered
+covers_earlier : (holder : HolderView) (orig earlier : List ℕ) → CoversKind holder.table holder.entries orig (kinds.Div earlier) → Covers holder.entries holder.table earlier
+covers_earlier holder orig earlier (inl covers) = covers
+covers_earlier holder orig earlier (inr allowed) = absurd allowed.0
+
 refused_by : Below → (bytes : List ℕ) (message : MessageView) (earlier : List ℕ) (readings : List Reading) (hop : HopView) (holder : HolderView) (signs : Signs) (one : SignFault)
     → Known bytes message earlier readings hop → IsRefusedBy bytes earlier hop holder signs one → IsCaused bytes message earlier readings hop holder signs (hop_fault one)
 refused_by laws bytes message earlier readings hop holder signs signing.Form k r =
@@ -143,7 +150,7 @@ refused_by laws bytes message earlier readings hop holder signs signing.Authorit
       to_sign = t;
       room = short_with bytes earlier r.moved hop u.claims (moved_is bytes hop.target r.moved r.is) u.room;
       lacks = λ c. u.lacks (subst (λ (h : HolderView). CoversKind h.table h.entries u.claims.orig u.claims.kind) same
-          (subst (λ (x : ClaimsView). CoversKind holder.table holder.entries x.orig x.kind) (sym t.says) c));
+          (subst (λ (x : ClaimsView). CoversKind holder.table holder.entries x.orig x.kind) (sym t.says) (inl c)));
     }
 refused_by laws bytes message earlier readings hop holder signs (signing.NoSignature digest) k r =
     let u : SignerUnsigned r.moved (diversion hop earlier) (Some holder) signs digest = r.cause in
@@ -152,7 +159,7 @@ refused_by laws bytes message earlier readings hop holder signs (signing.NoSigna
       claims = u.claims;
       to_sign = t;
       room = short_with bytes earlier r.moved hop u.claims (moved_is bytes hop.target r.moved r.is) u.room;
-      covers = subst (λ (x : ClaimsView). CoversKind holder.table holder.entries x.orig x.kind) t.says u.authority;
+      covers = covers_earlier holder t.orig earlier (subst (λ (x : ClaimsView). CoversKind holder.table holder.entries x.orig x.kind) t.says u.authority);
       carried = u.carried;
       none = u.none;
     }
@@ -208,7 +215,7 @@ lacking_held laws bytes message earlier readings hop holder k u back (Ok moved) 
           (subst (λ (x : List ℕ). 65535 < length (with_line x field_name (value_of (diversion hop earlier).shape u.claims signature))) (moved_is bytes hop.target moved e) h);
       one = holder;
       given = refl;
-      lacks = λ c. u.lacks (subst (λ (x : ClaimsView). CoversKind holder.table holder.entries x.orig x.kind) u.to_sign.says c);
+      lacks = λ c. u.lacks (covers_earlier holder u.to_sign.orig earlier (subst (λ (x : ClaimsView). CoversKind holder.table holder.entries x.orig x.kind) u.to_sign.says c));
     }))
 
 -- a call that goes on to a number is held back by the signer, or by its size
