@@ -11,7 +11,6 @@ use crate::inputs::{Inputs, read_files};
 use crate::materials::Materials;
 use crate::state_file::StateFile;
 use crate::stop::FileError;
-use cert_store::World;
 use state_text::State;
 use std::alloc::Global;
 use stir_outside::{AnswersReader, Shelf};
@@ -72,14 +71,7 @@ pub fn read_going<'a, S: Shelf, B: AnswersReader>(
         ..
     } = read_files(alloc, shelf, by, &named)?;
     Ok(GoingMaterials {
-        judging: Materials {
-            world: World {
-                chains: chains.unwrap(),
-                anchors: anchors.unwrap(),
-                table: table.unwrap(),
-            },
-            answers: answers.unwrap(),
-        },
+        judging: Materials::of(chains, anchors, table, answers),
         state: state.unwrap(),
     })
 }

@@ -1,5 +1,5 @@
 //! The four files of `verify`.
-ghost use Rattle.std.specs.Prelude.{◌≡◌, ◌+◌, ◌≤◌, IfOk, IfErr};
+ghost use Rattle.std.specs.Prelude.{◌≡◌, ◌+◌, ◌≤◌, IfOk, IfErr, IsTrue, Some, is_some};
 ghost use Rattle.stir_outside.specs.Files.{CountsGoOn};
 ghost use Rattle.stir_files.specs.Materials.{MaterialsOf, files_of};
 ghost use Rattle.stir_files.specs.Named.{CausedBy, StopsAt};
@@ -9,10 +9,12 @@ ghost use Rattle.stir_words.specs.Seen.{judging_view};
 use crate::input_file::InputFile;
 use crate::inputs::{Inputs, read_files};
 use crate::stop::FileError;
-use cert_store::World;
+use cert_store::{ChainMap, World};
+use delegation::Anchors;
 use std::alloc::Global;
 use stir_outside::{Answers, AnswersReader, Shelf};
 use stir_words::Judging;
+use tn_auth_list::CodeTable;
 
 /// What calls are judged by: what the four files say.
 #[derive(Drop)]
@@ -21,6 +23,34 @@ pub struct Materials {
     pub world: World,
     /// The signatures that are good, and those that were made.
     pub answers: Answers,
+}
+
+impl Materials {
+    /// These, of which each was read.
+    pub(crate) fn of(
+        chains: Option<ChainMap>,
+        anchors: Option<Anchors>,
+        table: Option<CodeTable>,
+        answers: Option<Answers>,
+    ) -> Materials
+        requires chains { IsTrue (is_some chains) }
+        requires anchors { IsTrue (is_some anchors) }
+        requires table { IsTrue (is_some table) }
+        requires answers { IsTrue (is_some answers) }
+        ensures chains { chains ≡ Some result.world.chains }
+        ensures anchors { anchors ≡ Some result.world.anchors }
+        ensures table { table ≡ Some result.world.table }
+        ensures answers { answers ≡ Some result.answers }
+    {
+        Materials {
+            world: World {
+                chains: chains.unwrap(),
+                anchors: anchors.unwrap(),
+                table: table.unwrap(),
+            },
+            answers: answers.unwrap(),
+        }
+    }
 }
 
 /// Reads the four files in the order chains, anchors, table, answers, and tries each by its grammar before the next is
@@ -62,12 +92,5 @@ pub fn read_materials<'a, S: Shelf, B: AnswersReader>(
         answers,
         ..
     } = read_files(alloc, shelf, by, &named)?;
-    Ok(Materials {
-        world: World {
-            chains: chains.unwrap(),
-            anchors: anchors.unwrap(),
-            table: table.unwrap(),
-        },
-        answers: answers.unwrap(),
-    })
+    Ok(Materials::of(chains, anchors, table, answers))
 }

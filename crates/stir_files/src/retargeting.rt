@@ -10,7 +10,6 @@ use crate::input_file::InputFile;
 use crate::inputs::{Inputs, read_files};
 use crate::materials::Materials;
 use crate::stop::FileError;
-use cert_store::World;
 use std::alloc::Global;
 use stir_outside::{OneThread, Shelf};
 use stir_words::Retargeting;
@@ -65,14 +64,7 @@ pub fn read_retargeting<'a, S: Shelf>(
         ..
     } = read_files(alloc, shelf, &OneThread, &named)?;
     Ok(RetargetingMaterials {
-        judging: Materials {
-            world: World {
-                chains: chains.unwrap(),
-                anchors: anchors.unwrap(),
-                table: table.unwrap(),
-            },
-            answers: answers.unwrap(),
-        },
+        judging: Materials::of(chains, anchors, table, answers),
         leaf: leaf.unwrap(),
     })
 }

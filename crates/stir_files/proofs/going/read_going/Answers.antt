@@ -2,5 +2,5 @@
 use Rattle.stir_files.proofs.ListSteps.{is_there}
 use Rattle.stir_files.proofs.going.read_going.Goals as goal
 
-pub unwrap-requires-5 : goal.unwrap-requires-5
-unwrap-requires-5 g c = is_there _ _ c.in_ok-chains.ensures.read.1.1.1.1.0.holds
+pub unwrap-requires : goal.unwrap-requires
+unwrap-requires g c = is_there _ _ c.in_ok-chains.ensures.read.1.1.1.1.0.holds
