@@ -15,6 +15,7 @@ use Rattle.verify_rules.specs.Call.{Reading, in_call_order}
 use Rattle.verify_rules.specs.Rules.{early_rules, first}
 use Rattle.verify_rules.specs.States.{State}
 use Rattle.x509_profile.specs.View.{CertView}
+use Rattle.open_calls.specs.declared.retargeting.Retargeting.{Retargeting}
 use Rattle.open_calls.specs.declared.target.Target.{Target}
 
 -- the request URI of the message that goes on, the first certificate of the key's chain, if there is any, the URI of
@@ -38,9 +39,14 @@ pub record Given : Type 0 where
   pub good : List ℕ
   pub target : TargetView
 
-abbrev pub given_of : WorldView → CallView → List (Option ChainView) → List ℕ → Target → Given
-given_of world call chains good target =
-    record { world = world; call = call; chains = chains; good = good; target = target_of target }
+abbrev pub given_of : Retargeting → Given
+given_of retargeting = record {
+  world = retargeting.world.now;
+  call = retargeting.call.now;
+  chains = retargeting.chains.now;
+  good = retargeting.good.now;
+  target = target_of retargeting.target;
+}
 
 -- ---- by whom and to where
 

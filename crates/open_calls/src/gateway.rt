@@ -1,6 +1,5 @@
 //! An open call sent on by a signature that is handed in, or the digest for which there is none yet.
 ghost use Rattle.std.specs.Prelude.{◌≡◌, IfErr, IfOk, IsTrue, None, Some, length};
-ghost use Rattle.open_calls.specs.OpenCalls.{judged_in};
 ghost use Rattle.open_calls.specs.OpenChains.{states_of};
 ghost use Rattle.auth_service.specs.Order.{holder_of};
 ghost use Rattle.open_calls.specs.Signing.{signature_in, signs_of};
@@ -10,15 +9,13 @@ ghost use Rattle.open_calls.specs.Going.{given_of, going_by};
 ghost use Rattle.open_calls.specs.Onward.{IsHeld, IsOnward};
 ghost use Rattle.open_calls.specs.Unmoved.{IsMovedBy, IsNamed, IsUnmovedFor, IsUnmovedWith};
 
-use crate::call::OpenCall;
 use crate::chains::OpenChains;
 use crate::confirmed::Confirmed;
 use crate::key::Key;
+use crate::retargeting::Retargeting;
 use crate::signing::signature_in;
-use crate::target::Target;
 use crate::unmoved::{Unmoved, why};
 use crate::unsigned::Unread;
-use crate::world::OpenWorld;
 use auth_service::Holder;
 use cert_store::Question;
 use retarget::{Hop, HopFault, retarget};
@@ -30,21 +27,12 @@ use verify_rules::Screened;
 /// on, at the best since there is none for a digest. The first certificate is looked at first, then the URI and the
 /// second, and then the call.
 #[tactic(auto, using(crate::proofs::MovedLaws::not_moved))]
-pub fn to_retarget(
-    alloc: Global,
-    world: &OpenWorld,
-    call: &OpenCall,
-    chains: &OpenChains<'_>,
-    good: &[u8],
-    target: &Target<'_>,
-) -> Unmoved
-    requires one_each { length chains.now ≡ length (judged_in call.now) }
-
+pub fn to_retarget(alloc: Global, retargeting: &Retargeting<'_>) -> Unmoved
     // The call passes and may go on there, and this is the digest of what has to be signed; or why it doesn't, or which
     // input is at fault.
-    ensures { IsUnmovedFor (given_of world.now call.now chains.now good.now target.now) None result }
+    ensures { IsUnmovedFor (given_of retargeting.now) None result }
 {
-    match move_by(alloc, world, call, chains, good, target, None) {
+    match move_by(alloc, retargeting, None) {
         Ok(_) => unreachable!(),
         Err(unmoved) => unmoved,
     }
@@ -56,23 +44,18 @@ pub fn to_retarget(
 #[tactic(auto, using(crate::proofs::MovedLaws::moved_with, crate::proofs::MovedLaws::unmoved_with, crate::proofs::MovedLaws::no_memory_with, crate::proofs::MovedLaws::no_signature))]
 pub fn retargeted(
     alloc: Global,
-    world: &OpenWorld,
-    call: &OpenCall,
-    chains: &OpenChains<'_>,
-    good: &[u8],
-    target: &Target<'_>,
+    retargeting: &Retargeting<'_>,
     signature: &[u8],
 ) -> Result<Vec<u8>, Unmoved>
-    requires one_each { length chains.now ≡ length (judged_in call.now) }
     ensures moved { IfOk result
-        (λ out. IsMovedBy (given_of world.now call.now chains.now good.now target.now) (Some signature.now) out.items) }
+        (λ out. IsMovedBy (given_of retargeting.now) (Some signature.now) out.items) }
     ensures unmoved { IfErr result
-        (IsUnmovedWith (given_of world.now call.now chains.now good.now target.now) signature.now) }
+        (IsUnmovedWith (given_of retargeting.now) signature.now) }
 {
     let Some(made) = signature_in(signature) else {
         return Err(Unmoved::Input(Unread::Signature));
     };
-    match move_by(alloc, world, call, chains, good, target, Some(made)) {
+    match move_by(alloc, retargeting, Some(made)) {
         Ok(out) => Ok(out),
         // There is a signature for each digest, so this doesn't come.
         Err(Unmoved::Digest(_)) => Err(Unmoved::Input(Unread::Memory)),
@@ -83,18 +66,20 @@ pub fn retargeted(
 /// The same by this signature or by none.
 fn move_by(
     alloc: Global,
-    world: &OpenWorld,
-    call: &OpenCall,
-    chains: &OpenChains<'_>,
-    good: &[u8],
-    target: &Target<'_>,
+    retargeting: &Retargeting<'_>,
     made: Option<[u8; 64]>,
 ) -> Result<Vec<u8>, Unmoved>
-    requires one_each { length chains.now ≡ length (judged_in call.now) }
     ensures moved { IfOk result
-        (λ out. IsMovedBy (given_of world.now call.now chains.now good.now target.now) made out.items) }
-    ensures unmoved { IfErr result (IsUnmovedFor (given_of world.now call.now chains.now good.now target.now) made) }
+        (λ out. IsMovedBy (given_of retargeting.now) made out.items) }
+    ensures unmoved { IfErr result (IsUnmovedFor (given_of retargeting.now) made) }
 {
+    let Retargeting {
+        world,
+        call,
+        chains,
+        good,
+        target,
+    } = *retargeting;
     let local = call.settings().local;
     let key = Key {
         leaf: target.leaf,

@@ -11,7 +11,7 @@
 //!    v judge, over OpenChains                                      Found: no rule is broken, or the first that is
 //! a Key, an Order, a message ----to_sign-->           a digest     to be signed by the host, or Unsigned: why there is none
 //!    v signed, by the signature                                    the message with its Identity field (RFC 8224, section 4.1)
-//! a call, its chains, a Target --to_retarget-->       a digest     to be signed by the host, or Unmoved: why there is none
+//! a Retargeting ----------------to_retarget-->       a digest     to be signed by the host, or Unmoved: why there is none
 //!    v retargeted, by the signature                                the message that goes on (RFC 8946, section 4; RFC 3261, section 16.6)
 //! ```
 //!
@@ -23,7 +23,8 @@
 //! - A [`Key`] is by what is signed: the first certificate of the signer's chain, the code table and the local
 //!   numbering under which it was opened. An [`Order`] is what is to be signed: where a call comes from, or that it
 //!   goes to another number than before.
-//! - A [`Target`] says where an open call goes on, by which first certificate of the signer's chain, and when.
+//! - A [`Target`] says where an open call goes on, by which first certificate of the signer's chain, and when. A
+//!   [`Retargeting`] is a call with its chains, what was confirmed, and its target.
 //!
 //! ```rust
 //! let world = OpenWorld::read(alloc, &setting, anchors, table)?;
@@ -38,7 +39,7 @@
 //!     other => ..,
 //! }
 //! let message = signed(alloc, &key, &order, message, &signature)?;
-//! let message = retargeted(alloc, &world, &call, &chains, good, &target, &signature)?;
+//! let message = retargeted(alloc, &retargeting, &signature)?;
 //! ```
 //!
 //! # What it isn't
@@ -78,6 +79,7 @@ mod laws;
 mod lines;
 mod order;
 mod readers;
+mod retargeting;
 mod signing;
 mod target;
 mod unmoved;
@@ -94,6 +96,7 @@ pub use judging::Asked;
 pub use key::Key;
 pub use laws::leaf_law;
 pub use order::Order;
+pub use retargeting::Retargeting;
 pub use signing::{signed, to_sign};
 pub use target::Target;
 pub use unmoved::Unmoved;

@@ -1,7 +1,6 @@
 //! What is told of a call that a handle holds, and that is to go on.
-ghost use Rattle.std.specs.Prelude.{◌≡◌, ◌≤◌, IfErr, IfOk, None, Some, length};
-ghost use Rattle.open_calls.specs.OpenCalls.{judged_in};
-ghost use Rattle.open_calls.specs.Going.{given_of, target_of};
+ghost use Rattle.std.specs.Prelude.{◌≡◌, IfErr, IfOk, None, Some};
+ghost use Rattle.open_calls.specs.Going.{given_of};
 ghost use Rattle.open_calls.specs.Unmoved.{IsMovedBy, IsUnmovedFor, IsUnmovedWith};
 ghost use Rattle.stir_c.specs.Owned.{view_of_call, view_of_chain};
 ghost use Rattle.stir_c.specs.Retarget.{ToldCame, ToldUnmoved, given_by};
@@ -9,9 +8,7 @@ ghost use Rattle.stir_c.specs.Retarget.{ToldCame, ToldUnmoved, given_by};
 use crate::owner::{HeldCall, HeldChain};
 use crate::said::{Said, said_of_unmoved};
 use crate::writing::{Text, told_text};
-use open_calls::{
-    OpenCall, OpenChains, OpenWorld, Target, Unmoved, Unread, retargeted, to_retarget,
-};
+use open_calls::{OpenChains, Retargeting, Target, Unmoved, Unread, retargeted, to_retarget};
 use std::alloc::Global;
 
 /// What is handed in beside a call and a key.
@@ -25,6 +22,32 @@ pub(crate) struct Moving<'a> {
     pub(crate) x5u: &'a [u8],
     /// When it is signed.
     pub(crate) iat: u64,
+}
+
+impl<'a> Moving<'a> {
+    /// The call that a handle holds, over these chains of it, and where it goes on by a key.
+    fn retargeting(
+        &self,
+        held: &'a HeldCall,
+        by: &'a HeldChain,
+        chains: &'a OpenChains<'a>,
+    ) -> Retargeting<'a>
+        requires { chains.now ≡ held.now.chains }
+        ensures { given_of result ≡ given_by (view_of_call held.now) (view_of_chain by.now) self.now }
+    {
+        Retargeting {
+            world: &held.world,
+            call: &held.call,
+            chains,
+            good: self.good,
+            target: Target {
+                uri: self.uri,
+                leaf: by.chain.leaf(),
+                x5u: self.x5u,
+                iat: self.iat,
+            },
+        }
+    }
 }
 
 /// Why a call doesn't go on without a signature, at the best since there is none for a digest.
@@ -41,36 +64,23 @@ pub(crate) fn told_unmoved(
         Ok(chains) => chains,
         Err(_) => return Said::no_memory(),
     };
-    let target = Target {
-        uri: moving.uri,
-        leaf: by.chain.leaf(),
-        x5u: moving.x5u,
-        iat: moving.iat,
-    };
-    told_by(
-        alloc,
-        &held.world,
-        &held.call,
-        &chains,
-        moving.good,
-        &target,
-    )
+    told_by(alloc, held, by, &chains, moving)
 }
 
-/// The same, of what is lent.
-#[tactic(auto, using(crate::proofs::RetargetLaws::told_unmoved))]
+/// The same, over chains that are lent.
 fn told_by(
     alloc: Global,
-    world: &OpenWorld,
-    call: &OpenCall,
+    held: &HeldCall,
+    by: &HeldChain,
     chains: &OpenChains<'_>,
-    good: &[u8],
-    target: &Target<'_>,
+    moving: &Moving<'_>,
 ) -> Said
-    requires one_each { length chains.now ≡ length (judged_in call.now) }
-    ensures { ToldUnmoved (IsUnmovedFor (given_of world.now call.now chains.now good.now target.now) None) result }
+    requires { chains.now ≡ held.now.chains }
+    ensures { ToldUnmoved (IsUnmovedFor (given_by (view_of_call held.now) (view_of_chain by.now) moving.now) None)
+        result }
 {
-    said_of_unmoved(to_retarget(alloc, world, call, chains, good, target))
+    let retargeting = moving.retargeting(held, by, chains);
+    said_of_unmoved(to_retarget(alloc, &retargeting))
 }
 
 /// The message that goes on, or why there is none.
@@ -90,40 +100,26 @@ pub(crate) fn moved_text(
         Ok(chains) => chains,
         Err(_) => return Err(Unmoved::Input(Unread::Memory)),
     };
-    let target = Target {
-        uri: moving.uri,
-        leaf: by.chain.leaf(),
-        x5u: moving.x5u,
-        iat: moving.iat,
-    };
-    text_by(
-        alloc,
-        &held.world,
-        &held.call,
-        &chains,
-        moving.good,
-        &target,
-        signature,
-    )
+    text_by(alloc, held, by, &chains, moving, signature)
 }
 
-/// The same, of what is lent.
+/// The same, over chains that are lent.
 fn text_by(
     alloc: Global,
-    world: &OpenWorld,
-    call: &OpenCall,
+    held: &HeldCall,
+    by: &HeldChain,
     chains: &OpenChains<'_>,
-    good: &[u8],
-    target: &Target<'_>,
+    moving: &Moving<'_>,
     signature: &[u8],
 ) -> Result<Text, Unmoved>
-    requires one_each { length chains.now ≡ length (judged_in call.now) }
-    ensures moved { IfOk result (λ text.
-        IsMovedBy (given_of world.now call.now chains.now good.now target.now) (Some signature.now) text.bytes.items) }
+    requires { chains.now ≡ held.now.chains }
+    ensures moved { IfOk result (λ text. IsMovedBy (given_by (view_of_call held.now) (view_of_chain by.now) moving.now)
+        (Some signature.now) text.bytes.items) }
     ensures unmoved { IfErr result
-        (IsUnmovedWith (given_of world.now call.now chains.now good.now target.now) signature.now) }
+        (IsUnmovedWith (given_by (view_of_call held.now) (view_of_chain by.now) moving.now) signature.now) }
 {
-    match retargeted(alloc, world, call, chains, good, target, signature) {
+    let retargeting = moving.retargeting(held, by, chains);
+    match retargeted(alloc, &retargeting, signature) {
         Ok(bytes) => Ok(Text { bytes }),
         Err(unmoved) => Err(unmoved),
     }

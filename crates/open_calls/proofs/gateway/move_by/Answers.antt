@@ -11,16 +11,16 @@ use Rattle.open_calls.proofs.gateway.move_by.Goals as goal
 
 pub returns-in_default-clause-unmoved : goal.returns-in_default-clause-unmoved
 returns-in_default-clause-unmoved c =
-    no_holder_as (option_copied c.args.target.now.leaf) c.table.result.now c.args.world.now.table c.behind-call.inside.local c.args.call.now.settings.local c.table.ensures
+    no_holder_as (option_copied c.args.retargeting.now.target.leaf) c.table.result.now c.args.retargeting.now.world.now.table c.behind-call.inside.local c.args.retargeting.now.call.now.settings.local c.table.ensures
     (ap (λ (s : SettingsView). s.local) (c.behind-call.view_is ∙ c.settings.ensures)) c.in_default.ensures
 
 pub onward-requires-clause-one_each : goal.onward-requires-clause-one_each
-onward-requires-clause-one_each c = one_each c.args.call.now c.in-Ok.screened.now c.args.chains.now c.in-Ok.ensures c.requires.one_each
+onward-requires-clause-one_each c = one_each c.args.retargeting.now.call.now c.in-Ok.screened.now c.args.retargeting.now.chains.now c.in-Ok.ensures c.args.retargeting.now.one_each
 
 pub returns-in-Ok-onward-clause-moved : goal.returns-in-Ok-onward-clause-moved
 returns-in-Ok-onward-clause-moved c =
-    let given = given_of c.args.world.now c.args.call.now c.args.chains.now c.args.good.now c.args.target.now in
-    let local : c.behind-call.inside.local ≡ c.args.call.now.settings.local = ap (λ (s : SettingsView). s.local) (c.behind-call.view_is ∙ c.settings.ensures) in
+    let given = given_of c.args.retargeting.now in
+    let local : c.behind-call.inside.local ≡ c.args.retargeting.now.call.now.settings.local = ap (λ (s : SettingsView). s.local) (c.behind-call.view_is ∙ c.settings.ensures) in
     let made : c.new-host.result.made ≡ c.args.made = ap (λ (v : ConfirmedView). v.made) c.new-host.ensures.exact in
     record {
       going = _;
@@ -31,8 +31,8 @@ returns-in-Ok-onward-clause-moved c =
 
 pub returns-clause-unmoved : goal.returns-clause-unmoved
 returns-clause-unmoved c =
-    let given = given_of c.args.world.now c.args.call.now c.args.chains.now c.args.good.now c.args.target.now in
-    let local : c.behind-call.inside.local ≡ c.args.call.now.settings.local = ap (λ (s : SettingsView). s.local) (c.behind-call.view_is ∙ c.settings.ensures) in
+    let given = given_of c.args.retargeting.now in
+    let local : c.behind-call.inside.local ≡ c.args.retargeting.now.call.now.settings.local = ap (λ (s : SettingsView). s.local) (c.behind-call.view_is ∙ c.settings.ensures) in
     let made : c.new-host.result.made ≡ c.args.made = ap (λ (v : ConfirmedView). v.made) c.new-host.ensures.exact in
     let fault = c.in-Err-onward.fault in
     subst (λ (came : Unmoved). IsUnmovedFor given c.args.made came) (sym c.why.ensures)
