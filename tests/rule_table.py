@@ -21,7 +21,7 @@ CODES = {number: code for number, code in ALL.items() if number != REPLAY}
 
 def other_lists():
     """The lists of the library that don't have these rules: the rows of the response codes, and the numbers of the lines of `explain`."""
-    rows = (TOP / 'crates/verify_rules/specs/Code.antt').read_text().split('\ncode_rows =\n')[1].split('\n\n')[0]
+    rows = (TOP / 'crates/verify_rules/specs/Code.antt').read_text().split('\ncode_rows =')[1].split('\n\n')[0]
     numbers = (TOP / 'crates/call_judging/src/rule_numbers.rt').read_text().split('pub const RULES')[1].split('= [')[1].split(']')[0]
     found = {
         'code_rows of verify_rules': (dict(sorted(ALL.items())), {int(rule): int(code) for rule, code in re.findall(r'\((\d+), (\d+)\)', rows)}),
