@@ -207,10 +207,11 @@ def test_spoilt_packets_end_nothing(collector):
         sent_one = bytes(data[:draws.choice([len(data), draws.randrange(len(data))])])
         with socket.socket(socket.AF_INET, socket.SOCK_DGRAM) as udp:
             udp.sendto(sent_one, one.place)
-    sent(one.place, packet(message('last')))
+    # A datagram is lost if the receiver's buffer is full of those before it, so this one is sent until it has come.
     until = time.monotonic() + 30
     while b'Call-ID: clast' not in open(one.out.name, 'rb').read():
         assert one.process.poll() is None and time.monotonic() < until
+        sent(one.place, packet(message('last')))
         time.sleep(0.05)
     one.end()
 
