@@ -1,10 +1,9 @@
 -- Judged chains that are held by the x5u that names them (RFC 7515, section 4.1.5), the most recently used first, and
 -- what becomes of them when one is used or put (this project's own rule).
-use Rattle.std.specs.Prelude.{◌≡◌, ℕ, ◌-◌, Bool, false, List, ◌∷◌, map, take, Vec, is_some, Option, Some, None}
+use Rattle.std.specs.Prelude.{◌≡◌, ℕ, ◌-◌, false, List, ◌∷◌, take, is_some, Option, Some, None}
 use Rattle.std.specs.Prelude.{if◌then◌else◌}
 use Rattle.std.specs.Map.{lookup, remove_entry}
 use Rattle.std.specs.Str.{bytes_eq}
-use Rattle.std.specs.Vec.{vec_items}
 use Rattle.cert_store.specs.Asking.{is_failed}
 use Rattle.cert_store.specs.Judged.{JudgedView}
 
@@ -16,10 +15,6 @@ Chains = List (List ℕ × JudgedView)
 pub record Holding : Type 0 where
   pub entries : Chains
   pub capacity : ℕ
-
--- the same of a map's entries
-abbrev pub held_in : {Y : Type 0} → List (Vec ℕ Y × JudgedView) → Chains
-held_in entries = map (λ entry. (vec_items entry.0, entry.1)) entries
 
 -- the chain that is held for this x5u
 abbrev pub chain_of : List ℕ → Chains → Option JudgedView

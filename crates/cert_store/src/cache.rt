@@ -7,6 +7,7 @@ ghost use Rattle.cert_store.specs.Using.{IsOnce, names};
 
 use crate::Memory;
 use crate::judged::Judged;
+use crate::x5u::{X5u, X5uView};
 use lru::LruCache;
 use std::alloc::Global;
 use std::marker::Model;
@@ -19,17 +20,17 @@ use std::num::NonZeroUsize;
 /// answered every question of each of them.
 #[derive(Drop)]
 pub struct Cache {
-    held: LruCache<Vec<u8>, Judged>,
+    held: LruCache<X5u, Judged>,
 }
 
 impl Model for Cache {
-    ghost use Rattle.cert_store.specs.Holding.{AreAnswered, Holding, held_in};
+    ghost use Rattle.cert_store.specs.Holding.{AreAnswered, Holding};
 
     ghost Value = { Holding };
 
-    ghost view = { λ c. record { entries = held_in c.held.entries; capacity = c.held.cap } };
+    ghost view = { λ c. record { entries = c.held.entries; capacity = c.held.cap } };
 
-    ghost invariant = { λ c. AreAnswered (held_in c.held.entries) };
+    ghost invariant = { λ c. AreAnswered c.held.entries };
 }
 
 impl Cache {
@@ -49,7 +50,7 @@ impl Cache {
     pub fn peek(&self, x5u: &[u8]) -> Option<&Judged>
         ensures { option_copied result ≡ chain_of x5u.now self.now.entries }
     {
-        self.held.peek(x5u)
+        self.held.peek(X5uView { bytes: x5u })
     }
 
     /// Makes the chain that is held for the x5u the most recently used one; false exactly if none is held, and then
@@ -58,7 +59,7 @@ impl Cache {
         ensures held { result ≡ is_some (chain_of x5u.now self.old.entries) }
         ensures order { self.new ≡ record self.old { entries = touched x5u.now self.old.entries } }
     {
-        self.held.promote(x5u)
+        self.held.promote(X5uView { bytes: x5u })
     }
 
     /// Holds a chain for the x5u as the most recently used one, in place of the one that was held for it. If none was
@@ -71,7 +72,7 @@ impl Cache {
         ensures refused { OnErr result (self.new ≡ self.old) }
         ensures again { IsSome (chain_of x5u.items self.old.entries) → IsOk result }
     {
-        match self.held.put(x5u, judged) {
+        match self.held.put(X5u::new(x5u), judged) {
             Ok(_) => Ok(()),
             Err(_) => Err(Memory),
         }

@@ -49,6 +49,7 @@ mod map_rows;
 mod path;
 mod signatures;
 mod world;
+mod x5u;
 
 pub use cache::Cache;
 pub use judge::judge_chain;

@@ -43,6 +43,7 @@ mod past;
 mod steps;
 #[cfg(test)]
 mod tests;
+mod ticket_key;
 mod view;
 
 pub use claim::Claim;
@@ -51,3 +52,4 @@ pub use past::Past;
 pub use state_text::{Kept, State, StateFault};
 /// Memory ran out.
 pub use std::alloc::AllocError as Memory;
+pub use ticket_key::TicketKey;

@@ -7,6 +7,7 @@ ghost use Rattle.std.specs.HashMap as hash;
 ghost use Rattle.replay_desk.specs.Past.{found, kept_from, unless_below};
 ghost use Rattle.state_text.specs.State.{Rises};
 
+use crate::ticket_key::TicketKey;
 use state_text::Kept;
 use std::alloc::{AllocError, Global};
 use std::collections::HashMap;
@@ -20,7 +21,7 @@ pub struct Past {
     /// The allocator, for the list of all calls.
     alloc: Global,
     /// The calls by ticket, and beside them calls that were dropped and aren't taken out yet.
-    calls: HashMap<[u8; 32], Kept>,
+    calls: HashMap<TicketKey, Kept>,
     /// A call was dropped if its last second is below this moment, a Unix time.
     moment: u64,
     /// How many tickets can be added; the map may have room for more.
@@ -88,7 +89,7 @@ impl Past {
     {
         self.moment = lowered(&mut self.calls, self.moment, kept.last);
         let _one_each = self.calls.len();
-        let added = self.calls.insert(ticket, kept);
+        let added = self.calls.insert(TicketKey::new(&ticket), kept);
         drop(added);
         self.spare -= 1;
     }
@@ -98,7 +99,10 @@ impl Past {
         ensures { result ≡ found self.now ticket.now }
     {
         let _one_each = self.calls.len();
-        unless_below(self.moment, self.calls.get(ticket).copied())
+        unless_below(
+            self.moment,
+            self.calls.get(&TicketKey::new(ticket)).copied(),
+        )
     }
 
     /// Drops exactly the calls whose PASSporT is fresh no longer: those whose last second is below the moment, a Unix
@@ -131,7 +135,7 @@ fn unless_below(moment: u64, call: Option<Kept>) -> Option<Kept>
 }
 
 /// Takes out the calls whose last second is below the moment.
-fn take_out(calls: &mut HashMap<[u8; 32], Kept>, moment: u64)
+fn take_out(calls: &mut HashMap<TicketKey, Kept>, moment: u64)
     ensures left { calls.new.entries ≡ kept_from moment calls.old.entries }
     ensures spare { hash.spare calls.old ≤ hash.spare calls.new }
 {
@@ -140,7 +144,7 @@ fn take_out(calls: &mut HashMap<[u8; 32], Kept>, moment: u64)
 
 /// A moment that isn't after this second, with the same calls from it on. That is the moment itself, or else the others
 /// are taken out.
-fn lowered(calls: &mut HashMap<[u8; 32], Kept>, moment: u64, last: u64) -> u64
+fn lowered(calls: &mut HashMap<TicketKey, Kept>, moment: u64, last: u64) -> u64
     ensures low { result ≤ last }
     ensures same { kept_from result calls.new.entries ≡ kept_from moment calls.old.entries }
     ensures spare { hash.spare calls.old ≤ hash.spare calls.new }
@@ -155,7 +159,7 @@ fn lowered(calls: &mut HashMap<[u8; 32], Kept>, moment: u64, last: u64) -> u64
 /// The tickets with their calls from the moment on, in no order.
 fn listed(
     alloc: Global,
-    calls: &HashMap<[u8; 32], Kept>,
+    calls: &HashMap<TicketKey, Kept>,
     moment: u64,
 ) -> Result<Vec<([u8; 32], Kept)>, AllocError>
     ensures same { IfOk result (λ list. list.items ≡ kept_from moment calls.now.entries) }
@@ -164,7 +168,7 @@ fn listed(
     let mut list = Vec::new(alloc);
     for (ticket, kept) in calls.iter() {
         if kept.last >= moment {
-            list.push((*ticket, *kept))?;
+            list.push((*ticket.bytes(), *kept))?;
         }
     }
     Ok(list)

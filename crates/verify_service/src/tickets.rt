@@ -7,13 +7,14 @@ ghost use Rattle.verify_service.specs.Ready.{is_passed, ticket_in};
 
 use crate::screening::{ReadyCall, Screening};
 use indexmap::IndexSet;
+use replay_desk::TicketKey;
 use std::alloc::{AllocError, Global};
 use std::marker::Model;
 
 /// Tickets, each once, in the order in which they were added. In contracts they are the list of these.
 #[derive(Drop)]
 struct Tickets {
-    tickets: IndexSet<[u8; 32]>,
+    tickets: IndexSet<TicketKey>,
 }
 
 impl Model for Tickets {
@@ -48,7 +49,7 @@ impl Tickets {
         ensures within { IfOk result (λ index. index < length self.new) }
         ensures few { OnOk result (length self.new ≤ length self.old + 1) }
     {
-        let (index, _) = self.tickets.insert_full(*ticket)?;
+        let (index, _) = self.tickets.insert_full(TicketKey::new(ticket))?;
         Ok(index)
     }
 }

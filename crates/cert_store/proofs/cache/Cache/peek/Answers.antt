@@ -1,8 +1,7 @@
 -- What is looked up is what is held.
-use Rattle.std.proofs.Common.{sym, ap, ◌∙◌}
+use Rattle.std.proofs.Common.{ap, ◌∙◌}
 use Rattle.cert_store.specs.Holding.{Holding, chain_of}
-use Rattle.cert_store.proofs.EntryLaws.{lookup_held}
 use Rattle.cert_store.proofs.cache.Cache.peek.Goals as goal
 
 pub returns : goal.returns
-returns c = c.peek.ensures ∙ sym (lookup_held c.args.x5u.now c.self.inside.held.entries) ∙ ap (λ (h : Holding). chain_of c.args.x5u.now h.entries) c.self.view_is
+returns c = c.peek.ensures ∙ ap (λ (h : Holding). chain_of c.args.x5u.now h.entries) c.self.view_is

@@ -1,4 +1,4 @@
-use Rattle.std.proofs.Common.{◌≡◌, ◌<◌, false, List, Option, Result, Ok, Err, IsOk, OnOk, sym, ap, ◌∙◌, arith}
+use Rattle.std.proofs.Common.{◌≡◌, ℕ, ◌<◌, false, List, Option, Result, Ok, Err, IsOk, OnOk, sym, ap, ◌∙◌, arith}
 use Rattle.std.specs.HashMap as hash
 use Rattle.std.specs.Map.{lookup}
 use Rattle.std.proofs.lemmas.Slice.Eq.{bytes_eq-Decides}
@@ -21,6 +21,7 @@ returns-clause-added c =
     let room : 0 < hash.spare c.lowered-self-inside.new.calls = omega (arith, c.requires.room, c.self.invariant, same_spare, c.lowered-self-inside.ensures.spare) in
     let updates = at_ok c.insert-added.result _ (c.insert-added.ensures.succeeds room) c.insert-added.ensures.updates in
     found_from moment c.args.ticket c.insert-added.new.self.entries c.insert-added.ensures.unique
+    ∙ ap (λ (key : List ℕ). unless_below moment (lookup (bytes_eq key) c.insert-added.new.self.entries)) (sym c.new.ensures)
     ∙ ap (λ (call : Option Kept). unless_below moment call) updates.1
     ∙ stays moment c.args.kept c.lowered-self-inside.ensures.low
 
@@ -30,7 +31,8 @@ returns-clause-others c = λ other apart.
     let same_spare = ap (λ (past : PastView). past.spare) c.self.view_is in
     let room : 0 < hash.spare c.lowered-self-inside.new.calls = omega (arith, c.requires.room, c.self.invariant, same_spare, c.lowered-self-inside.ensures.spare) in
     let updates = at_ok c.insert-added.result _ (c.insert-added.ensures.succeeds room) c.insert-added.ensures.updates in
-    let other_key : bytes_eq c.args.ticket other ≡ false = false_from_ne_true _ (λ same. apart (sym ((bytes_eq-Decides c.args.ticket other).0 same))) in
+    let other_ticket : bytes_eq c.args.ticket other ≡ false = false_from_ne_true _ (λ same. apart (sym ((bytes_eq-Decides c.args.ticket other).0 same))) in
+    let other_key : bytes_eq c.new.result other ≡ false = ap (λ (key : List ℕ). bytes_eq key other) c.new.ensures ∙ other_ticket in
     found_from moment other c.insert-added.new.self.entries c.insert-added.ensures.unique
     ∙ ap (λ (call : Option Kept). unless_below moment call) (updates.2 other other_key)
     ∙ sym (found_from moment other c.lowered-self-inside.new.calls.entries c.len-one_each.ensures.unique)
