@@ -122,16 +122,16 @@ base_found : (given : Option PassportView) (passport : PassportView) → or_comp
 base_found None passport e = absurd cc
 base_found (Some found) passport e = let same : found ≡ passport = cc in ap (λ k. Some k) same
 
-pub compact_text : (text : List ℕ) (parts : PartTexts) (signature_bytes signature : List ℕ) (call : CallView) (passport : PassportView) (token : TokenView)
-    → starts_with nat_eq text (codes "..") ≡ true → AreParts text parts → IsBase64 parts.signature signature_bytes
-    → (signature ≡ signature_bytes) × (length signature_bytes ≡ 64) → checked_base call ≡ Ok passport → token ≡ rebuilt passport signature
+pub compact_text : (text : List ℕ) (parts : PartTexts) (signature : List ℕ) (call : CallView) (passport : PassportView) (token : TokenView)
+    → starts_with nat_eq text (codes "..") ≡ true → AreParts text parts → IsBase64 parts.signature signature
+    → length signature ≡ 64 → checked_base call ≡ Ok passport → token ≡ rebuilt passport signature
     → CompactText text call token
-compact_text text parts signature_bytes signature call passport token dots are s n b e = record {
+compact_text text parts signature call passport token dots are s n b e = record {
   signature_text = parts.signature;
   passport = passport;
   are_parts = bare_parts text parts are dots;
-  signature_encoded = rw (e, n.0) s;
-  signature_length = rw (e, n.0) n.1;
+  signature_encoded = rw e s;
+  signature_length = rw e n;
   is_base = base_found (base_of call) passport b;
   is_rebuilt = let same : token.signature ≡ signature = ap (λ k. k.signature) e in e ∙ ap (rebuilt passport) (sym same);
 }

@@ -21,7 +21,7 @@ use Rattle.passport_json.specs.Base64.{IsBase64}
 use Rattle.passport_json.specs.Compact.{CallView, CompactText, checked_base, rebuilt}
 use Rattle.passport_json.specs.Object.{IsObjectText, object_of, only_object}
 use Rattle.passport_json.specs.Parts.{PartTexts, AreParts, dot, one_is_empty, parts_of}
-use Rattle.passport_json.specs.Token.{FullText, TokenText, checked_base64, checked_json, checked_parts, checked_signature, or_base64_fault, or_json_fault, read_compact, read_full, read_token, whole_parts}
+use Rattle.passport_json.specs.Token.{FullText, TokenText, checked_base64, checked_json, checked_parts, checked_signature, decoded_signature, or_base64_fault, or_json_fault, read_compact, read_full, read_token, whole_parts}
 use Rattle.passport_json.specs.View.{TokenView}
 use Rattle.passport_json.proofs.CompactLaws.{compact_text}
 use Rattle.passport_json.proofs.DecodedLaws.{base64_found}
@@ -112,8 +112,15 @@ signature_by : (bytes signature : List ℕ) (t : Bool) → (length bytes == 64) 
 signature_by bytes signature true e h = let same : bytes ≡ signature = cc in (sym same, eqb-true (length bytes) 64 e)
 signature_by bytes signature false e h = absurd cc
 
-pub signed : (bytes signature : List ℕ) → checked_signature bytes ≡ Ok signature → (signature ≡ bytes) × (length bytes ≡ 64)
+signed : (bytes signature : List ℕ) → checked_signature bytes ≡ Ok signature → (signature ≡ bytes) × (length bytes ≡ 64)
 signed bytes signature h = signature_by bytes signature _ refl h
+
+pub signature_found : (text signature : List ℕ) → IsBytes text → decoded_signature text ≡ Ok signature
+    → IsBase64 text signature × (length signature ≡ 64)
+signature_found text signature is h =
+    let bytes = came (checked_base64 3 text) checked_signature signature h in
+    let same = signed bytes.0 signature bytes.2 in
+    (rw same.0 (encoded 3 text bytes.0 is bytes.1), rw same.0 same.1)
 
 only_found : (found value : Data) → only_object found ≡ Some value → (found ≡ value) × ((members : _) × (value ≡ object members))
 only_found null value h = absurd cc
@@ -146,17 +153,16 @@ full_found text token bytes h =
     let parts = came (checked_parts text) _ token h in
     let header_bytes = came (checked_base64 1 parts.0.header) _ token parts.2 in
     let payload_bytes = came (checked_base64 2 parts.0.payload) _ token header_bytes.2 in
-    let signature_bytes = came (checked_base64 3 parts.0.signature) _ token payload_bytes.2 in
-    let signature = came (checked_signature signature_bytes.0) _ token signature_bytes.2 in
+    let signature = came (decoded_signature parts.0.signature) _ token payload_bytes.2 in
     let header = came (checked_json 1 header_bytes.0) _ token signature.2 in
     let payload = came (checked_json 2 payload_bytes.0) _ token header.2 in
     let are = checked_found text parts.0 parts.1 in
     let each = typed text parts.0 bytes are in
-    let made = token_text text parts.0 header_bytes.0 payload_bytes.0 signature_bytes.0 _ _ signature.0 header.0 payload.0 are
+    let whole = signature_found parts.0.signature signature.0 each.signature signature.1 in
+    let made = token_text text parts.0 header_bytes.0 payload_bytes.0 _ _ signature.0 header.0 payload.0 are
     (encoded 1 parts.0.header header_bytes.0 each.header header_bytes.1)
     (encoded 2 parts.0.payload payload_bytes.0 each.payload payload_bytes.1)
-    (encoded 3 parts.0.signature signature_bytes.0 each.signature signature_bytes.1)
-    (signed signature_bytes.0 signature.0 signature.1)
+    whole.0 whole.1
     (object_found 1 header_bytes.0 header.0 header.1)
     (object_found 2 payload_bytes.0 payload.0 payload.1) refl refl in
     subst (FullText text) (inside _ token payload.2) made
@@ -166,14 +172,12 @@ compact_found : (text : List ℕ) (call : CallView) (token : TokenView) → IsBy
 unfolding read_compact
 compact_found text call token bytes dots h =
     let parts = came (checked_parts text) _ token h in
-    let signature_bytes = came (checked_base64 3 parts.0.signature) _ token parts.2 in
-    let signature = came (checked_signature signature_bytes.0) _ token signature_bytes.2 in
+    let signature = came (decoded_signature parts.0.signature) _ token parts.2 in
     let passport = came (checked_base call) _ token signature.2 in
     let are = checked_found text parts.0 parts.1 in
     let each = typed text parts.0 bytes are in
-    compact_text text parts.0 signature_bytes.0 signature.0 call passport.0 token dots are
-    (encoded 3 parts.0.signature signature_bytes.0 each.signature signature_bytes.1)
-    (signed signature_bytes.0 signature.0 signature.1) passport.1 (sym (inside (rebuilt passport.0 signature.0) token passport.2))
+    let whole = signature_found parts.0.signature signature.0 each.signature signature.1 in
+    compact_text text parts.0 signature.0 call passport.0 token dots are whole.0 whole.1 passport.1 (sym (inside (rebuilt passport.0 signature.0) token passport.2))
 
 token_by : (text : List ℕ) (call : CallView) (token : TokenView) (t : Bool) → IsBytes text → starts_with nat_eq text (codes "..") ≡ t
     → cond t (read_compact call text) (read_full text) ≡ Ok token → TokenText text call token

@@ -1,7 +1,8 @@
 -- A text with exactly two dots is cut into its three texts, and into no other.
-use Rattle.std.proofs.Common.{◌≡◌, ℕ, suc, ◌+◌, ◌≤◌, List, [], ◌∷◌, ◌++◌, length, take, Some, refl, arith, ap, length-append}
+use Rattle.std.proofs.Common.{◌≡◌, ℕ, Bool, true, false, not, ◌&&◌, eqb, ◌∙◌, suc, ◌+◌, ◌≤◌, List, [], ◌∷◌, ◌++◌, length, take, Some, refl, arith, ap, length-append}
 use Rattle.passport_json.specs.Parts.{PartTexts, AreParts, parts_of, dot, signing_of}
 use Rattle.text_grammar.proofs.CutLaws.{cut_again}
+use Rattle.text_grammar.specs.Cut.{lacks}
 
 take_front : (a b : List ℕ) → take (length a) (a ++ b) ≡ a
 take_front [] b = refl
@@ -23,3 +24,14 @@ signing_taken text parts are = rw are.joined (take_through dot parts.header part
 pub signing_within : (text : List ℕ) (parts : PartTexts) → AreParts text parts → length parts.header + 1 + length parts.payload ≤ length text
 signing_within text parts are =
     omega (arith, ap length are.joined, length-append parts.header (dot ∷ (parts.payload ++ dot ∷ parts.signature)), length-append parts.payload (dot ∷ parts.signature))
+
+and_false : (test : Bool) → (test && false) ≡ false
+and_false true = refl
+and_false false = refl
+
+dot_within : (front rest : List ℕ) → lacks dot (front ++ dot ∷ rest) ≡ false
+dot_within [] rest = refl
+dot_within (byte ∷ front) rest = ap (λ x. not (eqb byte dot) && x) (dot_within front rest) ∙ and_false (not (eqb byte dot))
+
+pub has_dot : (text front rest : List ℕ) → text ≡ front ++ dot ∷ rest → lacks dot text ≡ false
+has_dot text front rest is = ap (lacks dot) is ∙ dot_within front rest

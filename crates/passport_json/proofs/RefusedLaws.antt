@@ -15,10 +15,10 @@ use Rattle.passport_json.specs.Object.{IsObjectText}
 use Rattle.passport_json.specs.Parts.{AreParts, PartTexts, signing_of}
 use Rattle.passport_json.specs.Reading.{Gives, IfRefused, fault_seen}
 use Rattle.passport_json.specs.Refused.{HasBoth, HasNeither, IsDecoded, IsNoBase64, IsNoObject, IsSerialized, IsSized, Lacks, Refused, compact, dots, header_base64, header_object, one_empty, payload_base64, payload_object, signature_base64, signature_length}
-use Rattle.passport_json.specs.Token.{checked_base64, checked_json, checked_parts, checked_signature, read_compact, read_full, read_token}
+use Rattle.passport_json.specs.Token.{checked_base64, checked_json, checked_parts, checked_signature, decoded_signature, read_compact, read_full, read_token}
 use Rattle.passport_json.specs.View.{TokenView}
 use Rattle.passport_json.proofs.CompactLaws.{bare_parts, read_dots, read_else}
-use Rattle.passport_json.proofs.FoundLaws.{TypedParts, encoded, object_found, signed, typed}
+use Rattle.passport_json.proofs.FoundLaws.{TypedParts, encoded, object_found, signature_found, typed}
 use Rattle.passport_json.proofs.ObjectLaws.{json_again}
 use Rattle.passport_json.proofs.RefusedSteps.{bare_start, base64_refused, base_refused, both_there, empty_encoded, full_start, json_refused, no_base, no_base64, no_base64_some, no_object, no_parts, no_size, one_empty_not, one_part, parts_refused, payload_start, serialized, serialized_again, signature_refused, stops}
 use Rattle.passport_json.proofs.TokenLaws.{base64_again, signature_again}
@@ -60,28 +60,35 @@ header_refused text call fault parts bytes signature sized both h =
       | inr p ↦ payload_refused text call fault parts bytes p.0 signature sized both (object_found 1 bytes.header p.0 p.1) p.2
     ]
 
-abbrev behind_signature : PartTexts → PartTexts → Result TokenView TokenFault
-behind_signature parts bytes = checked_signature bytes.signature >>= λ signature. behind_size parts bytes.header bytes.payload signature
-
-size_refused : (text : List ℕ) (call : CallView) (fault : TokenFault) (parts bytes : PartTexts) → IsDecoded text parts bytes → HasBoth parts
-    → behind_signature parts bytes ≡ Err fault → Refused text call fault
-size_refused text call fault parts bytes decoded both h =
-    elim (stops (checked_signature bytes.signature) _ fault h) [
-      | inl k ↦ signature_length parts bytes decoded (signature_refused bytes.signature fault k).1 (signature_refused bytes.signature fault k).0
-      | inr p ↦ header_refused text call fault parts bytes p.0 (record { decoded = decoded; size = (signed bytes.signature p.0 p.1).1 }) both p.2
+-- a fault of the third part, in either form
+signature_refused_by : (text : List ℕ) (call : CallView) (fault : TokenFault) (parts : PartTexts) (header payload : List ℕ) → IsBytes parts.signature
+    → IsSerialized text parts → IsBase64 parts.header header → IsBase64 parts.payload payload → decoded_signature parts.signature ≡ Err fault
+    → Refused text call fault
+signature_refused_by text call fault parts header payload bytes s eh ep h =
+    elim (stops (checked_base64 3 parts.signature) checked_signature fault h) [
+      | inl k ↦ signature_base64 parts header payload s eh ep (base64_refused 3 parts.signature fault k).1 (base64_refused 3 parts.signature fault k).0
+      | inr p ↦ signature_length parts (texts header payload p.0)
+          (record { serialized = s; header = eh; payload = ep; signature = encoded 3 parts.signature p.0 bytes p.1 })
+          (signature_refused p.0 fault p.2).1 (signature_refused p.0 fault p.2).0
     ]
 
+sized : (text : List ℕ) (parts : PartTexts) (header payload signature : List ℕ) → IsBytes parts.signature → IsSerialized text parts
+    → IsBase64 parts.header header → IsBase64 parts.payload payload → decoded_signature parts.signature ≡ Ok signature
+    → IsSized text parts (texts header payload signature)
+sized text parts header payload signature bytes s eh ep h =
+    let whole = signature_found parts.signature signature bytes h in
+    record { decoded = record { serialized = s; header = eh; payload = ep; signature = whole.0 }; size = whole.1 }
+
 abbrev behind_payload : PartTexts → List ℕ → List ℕ → Result TokenView TokenFault
-behind_payload parts header payload = checked_base64 3 parts.signature >>= λ signature. behind_signature parts (texts header payload signature)
+behind_payload parts header payload = decoded_signature parts.signature >>= λ signature. behind_size parts header payload signature
 
 third_refused : (text : List ℕ) (call : CallView) (fault : TokenFault) (parts : PartTexts) (header payload : List ℕ) → IsBytes parts.signature
     → IsSerialized text parts → HasBoth parts → IsBase64 parts.header header → IsBase64 parts.payload payload
     → behind_payload parts header payload ≡ Err fault → Refused text call fault
 third_refused text call fault parts header payload bytes s both eh ep h =
-    elim (stops (checked_base64 3 parts.signature) _ fault h) [
-      | inl k ↦ signature_base64 parts header payload s eh ep (base64_refused 3 parts.signature fault k).1 (base64_refused 3 parts.signature fault k).0
-      | inr p ↦ size_refused text call fault parts (texts header payload p.0)
-          (record { serialized = s; header = eh; payload = ep; signature = encoded 3 parts.signature p.0 bytes p.1 }) both p.2
+    elim (stops (decoded_signature parts.signature) _ fault h) [
+      | inl k ↦ signature_refused_by text call fault parts header payload bytes s eh ep k
+      | inr p ↦ header_refused text call fault parts (texts header payload p.0) p.0 (sized text parts header payload p.0 bytes s eh ep p.1) both p.2
     ]
 
 abbrev behind_first : PartTexts → List ℕ → Result TokenView TokenFault
@@ -125,33 +132,23 @@ bare parts = texts [] [] parts.signature
 bare_serialized : (text : List ℕ) (parts : PartTexts) → AreParts text parts → starts_with nat_eq text (codes "..") ≡ true → IsSerialized text (bare parts)
 bare_serialized text parts are start = record { are = bare_parts text parts are start; both = one_empty_not [] [] refl }
 
+abbrev behind_bare : CallView → List ℕ → Result TokenView TokenFault
+behind_bare call signature = checked_base call >>= λ passport. Ok (rebuilt passport signature)
+
 call_refused : (text : List ℕ) (call : CallView) (fault : TokenFault) (parts bytes : PartTexts) (signature : List ℕ) → IsSized text parts bytes → HasNeither parts
-    → (checked_base call >>= λ passport. Ok (rebuilt passport signature)) ≡ Err fault → Refused text call fault
+    → behind_bare call signature ≡ Err fault → Refused text call fault
 call_refused text call fault parts bytes signature sized neither h =
     elim (stops (checked_base call) _ fault h) [
       | inl k ↦ compact parts bytes sized neither (base_refused call fault k).1 (base_refused call fault k).0
       | inr p ↦ absurd (let e = p.2 in cc)
     ]
 
-abbrev behind_bare : CallView → List ℕ → Result TokenView TokenFault
-behind_bare call bytes = checked_signature bytes >>= λ signature. checked_base call >>= λ passport. Ok (rebuilt passport signature)
-
-bare_size_refused : (text : List ℕ) (call : CallView) (fault : TokenFault) (parts bytes : PartTexts) → IsDecoded text parts bytes → HasNeither parts
-    → behind_bare call bytes.signature ≡ Err fault → Refused text call fault
-bare_size_refused text call fault parts bytes decoded neither h =
-    elim (stops (checked_signature bytes.signature) _ fault h) [
-      | inl k ↦ signature_length parts bytes decoded (signature_refused bytes.signature fault k).1 (signature_refused bytes.signature fault k).0
-      | inr p ↦ call_refused text call fault parts bytes p.0 (record { decoded = decoded; size = (signed bytes.signature p.0 p.1).1 }) neither p.2
-    ]
-
 bare_refused : (text : List ℕ) (call : CallView) (fault : TokenFault) (parts : PartTexts) → IsBytes parts.signature → IsSerialized text (bare parts)
-    → (checked_base64 3 parts.signature >>= behind_bare call) ≡ Err fault → Refused text call fault
+    → (decoded_signature parts.signature >>= behind_bare call) ≡ Err fault → Refused text call fault
 bare_refused text call fault parts bytes s h =
-    elim (stops (checked_base64 3 parts.signature) _ fault h) [
-      | inl k ↦ signature_base64 (bare parts) [] [] s empty_encoded empty_encoded (base64_refused 3 parts.signature fault k).1
-          (base64_refused 3 parts.signature fault k).0
-      | inr p ↦ bare_size_refused text call fault (bare parts) (texts [] [] p.0)
-          (record { serialized = s; header = empty_encoded; payload = empty_encoded; signature = encoded 3 parts.signature p.0 bytes p.1 }) (refl, refl) p.2
+    elim (stops (decoded_signature parts.signature) _ fault h) [
+      | inl k ↦ signature_refused_by text call fault (bare parts) [] [] bytes s empty_encoded empty_encoded k
+      | inr p ↦ call_refused text call fault (bare parts) (texts [] [] p.0) p.0 (sized text (bare parts) [] [] p.0 bytes s empty_encoded empty_encoded p.1) (refl, refl) p.2
     ]
 
 compact_refused : (text : List ℕ) (call : CallView) (fault : TokenFault) → IsBytes text → starts_with nat_eq text (codes "..") ≡ true

@@ -68,11 +68,11 @@ not_empty text bytes value is t empty =
     let P : List ℕ → Type 0 = λ b. IsObjectText b value in
     empty_is_no_object value (subst P none t)
 
-pub token_text : (text : List ℕ) (parts : PartTexts) (header_bytes payload_bytes signature_bytes received signing signature : List ℕ) (header payload : Data)
-    → AreParts text parts → IsBase64 parts.header header_bytes → IsBase64 parts.payload payload_bytes → IsBase64 parts.signature signature_bytes
-    → (signature ≡ signature_bytes) × (length signature_bytes ≡ 64) → IsObjectText header_bytes header → IsObjectText payload_bytes payload
+pub token_text : (text : List ℕ) (parts : PartTexts) (header_bytes payload_bytes received signing signature : List ℕ) (header payload : Data)
+    → AreParts text parts → IsBase64 parts.header header_bytes → IsBase64 parts.payload payload_bytes → IsBase64 parts.signature signature
+    → length signature ≡ 64 → IsObjectText header_bytes header → IsObjectText payload_bytes payload
     → received ≡ signing_of parts → signing ≡ received → FullText text (record { header = header; payload = payload; signing = signing; signature = signature; compact = false })
-token_text text parts header_bytes payload_bytes signature_bytes received signing signature header payload are h p s n ho po e copied = record {
+token_text text parts header_bytes payload_bytes received signing signature header payload are h p s n ho po e copied = record {
   parts = parts;
   header_bytes = header_bytes;
   payload_bytes = payload_bytes;
@@ -81,8 +81,8 @@ token_text text parts header_bytes payload_bytes signature_bytes received signin
   has_payload = not_empty parts.payload payload_bytes payload p po;
   header_encoded = h;
   payload_encoded = p;
-  signature_encoded = rw n.0 s;
-  signature_length = rw n.0 n.1;
+  signature_encoded = s;
+  signature_length = n;
   header_object = ho;
   payload_object = po;
   signing_received = copied ∙ e;

@@ -60,6 +60,10 @@ checked_base64 part text = or_base64_fault part (decode_of url_safe_no_pad text)
 abbrev pub checked_signature : List ℕ → Result (List ℕ) TokenFault
 checked_signature bytes = if length bytes == 64 then Ok bytes else Err SignatureLength
 
+-- the 64 bytes that the text of the third part is the encoding of
+abbrev pub decoded_signature : List ℕ → Result (List ℕ) TokenFault
+decoded_signature text = checked_base64 3 text >>= checked_signature
+
 abbrev pub or_json_fault : ℕ → Option Data → Result Data TokenFault
 or_json_fault part None = Err (Json part)
 or_json_fault part (Some value) = Ok value
@@ -74,8 +78,7 @@ read_full text = do
   parts ← checked_parts text
   header_bytes ← checked_base64 1 parts.header
   payload_bytes ← checked_base64 2 parts.payload
-  signature_bytes ← checked_base64 3 parts.signature
-  signature ← checked_signature signature_bytes
+  signature ← decoded_signature parts.signature
   header ← checked_json 1 header_bytes
   payload ← checked_json 2 payload_bytes
   Ok (record { header = header; payload = payload; signing = signing_of parts; signature = signature; compact = false })
@@ -84,8 +87,7 @@ read_full text = do
 unfoldable pub read_compact : CallView → List ℕ → Result TokenView TokenFault
 read_compact call text = do
   parts ← checked_parts text
-  signature_bytes ← checked_base64 3 parts.signature
-  signature ← checked_signature signature_bytes
+  signature ← decoded_signature parts.signature
   passport ← checked_base call
   Ok (rebuilt passport signature)
 

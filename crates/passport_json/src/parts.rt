@@ -36,10 +36,14 @@ pub(crate) fn parts_of(text: &[u8]) -> Option<Parts<'_>>
 }
 
 /// Whether no byte is a dot.
+#[tactic(auto, using(crate::proofs::PartLaws::has_dot))]
 fn lacks_dot(text: &[u8]) -> bool
     ensures { result ≡ lacks dot text.now }
 {
-    text.iter().all(|byte| *byte != b'.')
+    match cut(text, b'.') {
+        Some(_) => false,
+        None => true,
+    }
 }
 
 /// Exactly one of two texts is empty.

@@ -1,4 +1,6 @@
-ghost use Rattle.std.specs.Prelude.{◌≡◌, false, length, IfOk, IsTrue};
+ghost use Rattle.std.specs.Prelude.{◌≡◌, false, length, Ok, IfOk, IfSome, IsTrue};
+ghost use Rattle.base64.specs.Engines.{url_safe_no_pad};
+ghost use Rattle.base64.specs.GeneralPurpose.{decode_of};
 ghost use Rattle.serde_json.specs.View.{view};
 ghost use Rattle.passport_json.specs.Base64.{IsBase64};
 ghost use Rattle.passport_json.specs.Object.{IsObjectText, is_object};
@@ -6,6 +8,7 @@ ghost use Rattle.passport_json.specs.Parts.{AreParts, one_is_empty};
 ghost use Rattle.passport_json.specs.Reading.{Gives};
 ghost use Rattle.passport_json.specs.Seen.{texts_of};
 ghost use Rattle.passport_json.specs.Token.{checked_parts, checked_base64, checked_signature, checked_json};
+ghost use Rattle.passport_json.specs.Token.{decoded_signature};
 
 use crate::fault::TokenFault;
 use crate::parts::{Parts, one_is_empty, parts_of};
@@ -42,7 +45,7 @@ pub(crate) fn checked_base64(alloc: Global, text: &[u8], part: u8) -> Result<Vec
 }
 
 /// A signature of 64 bytes.
-pub(crate) fn checked_signature(bytes: Vec<u8>) -> Result<[u8; 64], TokenFault>
+fn checked_signature(bytes: Vec<u8>) -> Result<[u8; 64], TokenFault>
     ensures exact { result ≡ checked_signature bytes.items }
     ensures whole { IfOk result (λ signature. (signature ≡ bytes.items) × (length bytes.items ≡ 64)) }
 {
@@ -50,6 +53,33 @@ pub(crate) fn checked_signature(bytes: Vec<u8>) -> Result<[u8; 64], TokenFault>
         Ok(signature) => Ok(signature),
         Err(_) => Err(TokenFault::SignatureLength),
     }
+}
+
+/// The 64 bytes that a text of 86 symbols is the encoding of, which takes no memory.
+fn usual_signature(text: &[u8]) -> Option<[u8; 64]>
+    ensures { IfSome result (λ signature. decode_of url_safe_no_pad text.now ≡ Ok signature) }
+{
+    if text.len() != 86 {
+        return None;
+    }
+    let mut buffer = [0; 66];
+    match URL_SAFE_NO_PAD.decode_slice_unchecked(text, &mut buffer) {
+        Ok(64) => buffer.first_chunk::<64>().copied(),
+        _ => None,
+    }
+}
+
+/// The 64 bytes of a signature in base64url (RFC 7518, section 3.4), the third part.
+pub(crate) fn decoded_signature(alloc: Global, text: &[u8]) -> Result<[u8; 64], TokenFault>
+    ensures exact { Gives (λ signature. signature) result (decoded_signature text.now) }
+    ensures encoded { IfOk result (λ signature. IsBase64 text.now signature) }
+    ensures size { IfOk result (λ signature. length signature ≡ 64) }
+{
+    if let Some(signature) = usual_signature(text) {
+        return Ok(signature);
+    }
+    let bytes = checked_base64(alloc, text, 3)?;
+    checked_signature(bytes)
 }
 
 /// The JSON object that the bytes of a part are.

@@ -16,7 +16,7 @@ ghost use Rattle.serde_json.specs.View.{view};
 use crate::compact::{Base, checked_base, header_of, payload_of};
 use crate::fault::TokenFault;
 use crate::parts::signing_of;
-use crate::read::{checked_base64, checked_json, checked_parts, checked_signature};
+use crate::read::{checked_base64, checked_json, checked_parts, decoded_signature};
 use crate::signing::signing_input;
 use crate::view::View;
 use crate::writing::deterministic;
@@ -166,8 +166,7 @@ fn read_full(alloc: Global, text: &[u8]) -> Result<Token, TokenFault>
     let parts = checked_parts(text)?;
     let header_bytes = checked_base64(alloc, parts.header, 1)?;
     let payload_bytes = checked_base64(alloc, parts.payload, 2)?;
-    let signature_bytes = checked_base64(alloc, parts.signature, 3)?;
-    let signature = checked_signature(signature_bytes)?;
+    let signature = decoded_signature(alloc, parts.signature)?;
     let header = checked_json(alloc, header_bytes, 1)?;
     let payload = checked_json(alloc, payload_bytes, 2)?;
     let signing = Vec::from_slice(alloc, signing_of(text, &parts))?;
@@ -190,8 +189,7 @@ fn checked_compact(alloc: Global, text: &[u8], view: &View<'_>) -> Result<Token,
     ensures signed { IfOk result (λ token. payload_in token.signing ≡ Some token.payload) }
 {
     let parts = checked_parts(text)?;
-    let decoded = checked_base64(alloc, parts.signature, 3)?;
-    let signature = checked_signature(decoded)?;
+    let signature = decoded_signature(alloc, parts.signature)?;
     match checked_base(view) {
         Ok(base) => Ok(rebuilt(alloc, &base, signature)?),
         Err(fault) => Err(fault),
