@@ -137,3 +137,18 @@ international_again text number local h is =
 pub plain_again : (number : List ℕ) (local : LocalView) → is_number number ≡ true → (are_digits number ≡ true → length number ≡ local.national → ⊥)
     → Canon number local ≡ Some number
 plain_again number local h other = given number local number (plain h (number_stays number h) other)
+
+-- ---- a text without separators stands for its number
+
+pub stands_after_plus : (text rest : List ℕ) (local : LocalView) (read : Option (List ℕ)) → text ≡ plus ∷ rest → read ≡ exact rest → IfSome read (λ number. Canon text local ≡ Some number)
+stands_after_plus text rest local None is h = tt
+stands_after_plus text rest local (Some number) is h =
+    let read = exact_by rest number (is_number rest) (sym h) in
+    international_again text number local (ap is_number (sym read.1) ∙ read.0) (is ∙ ap (λ r. plus ∷ r) read.1)
+
+pub stands_plainly : (text : List ℕ) (local : LocalView) (read : Option (List ℕ)) → read ≡ option_map (with_country local) (exact text) → IfSome read (λ number. Canon text local ≡ Some number)
+unfolding Canon
+stands_plainly text local None h = tt
+stands_plainly text local (Some number) h =
+    let read = completed_by text number local (is_number text) (sym h) in
+    ap (λ kept. number_of_kept kept local) (number_stays text read.0) ∙ plain_number text local read.0 ∙ ap Some read.1

@@ -1,13 +1,10 @@
 -- What is asked of each of the list of all numbers is asked of every number.
-use Rattle.std.proofs.Common.{◌≡◌, ℕ, zero, suc, ◌<◌, ◌≤◌, Bool, true, not, ◌&&◌, ◌⊎◌, inl, inr, List, [], ◌∷◌, map, length, Contains, arith, refl, sym, ap, ◌∙◌}
-use Rattle.std.proofs.lemmas.Bool.{cases_Bool, cases_lt, and_parts}
+use Rattle.std.proofs.Common.{◌≡◌, ℕ, zero, suc, ◌≤◌, Bool, true, ◌&&◌, inl, inr, List, [], ◌∷◌, map, length, arith, refl, sym, ◌∙◌}
+use Rattle.std.proofs.lemmas.Bool.{cases_lt, and_parts}
 use Rattle.std.proofs.lemmas.Bool.Decides.{nat_tests}
 use Rattle.std.proofs.lemmas.List.Folds.{list_all-append, list_all-map}
-use Rattle.std.proofs.lemmas.List.Recursion.{and_at}
 use Rattle.std.specs.Cmp.Derive.{both_true}
-use Rattle.std.specs.Cmp.Lexicographic.{bytes_decides}
-use Rattle.std.specs.List.{flat_map, list_all, slice_index_or}
-use Rattle.std.specs.Str.{bytes_eq}
+use Rattle.std.specs.List.{flat_map, list_all}
 use Rattle.tn_values.specs.Number.{is_number_byte, is_number}
 use Rattle.tn_values.specs.Every.{number_bytes, texts_of, texts_up_to, every_number}
 use Rattle.tn_values.proofs.NumberFacts.{number_parts}
@@ -101,36 +98,3 @@ number_from text some short bytes = grind (arith, nat_tests)
 pub tested_all : (test : List ℕ → Bool) → ((number : List ℕ) → is_number number ≡ true → test number ≡ true) → list_all test every_number ≡ true
 unfolding every_number
 tested_all test passes = all_up_to 15 test (λ text some short bytes. passes text (number_from text some short bytes))
-
--- a text is in a list, or each of the list is another
-has_or_not : (texts : List (List ℕ)) (text : List ℕ) → Contains texts text ⊎ (list_all (λ other. not (bytes_eq other text)) texts ≡ true)
-has_or_not [] text = inr refl
-has_or_not (other ∷ texts) text =
-    elim (cases_Bool (bytes_eq other text)) [
-      | inl same ↦ inl (0, omega arith, (bytes_decides other text).0 same)
-      | inr differs ↦ elim (has_or_not texts text) [
-        | inl c ↦ inl (suc c.0, omega (arith, c.1), c.2)
-        | inr none ↦ inr (both_true (ap not differs) none)
-      ]
-    ]
-
--- every number is in the list
-pub every_has : (number : List ℕ) → is_number number ≡ true → Contains every_number number
-every_has number is =
-    elim (has_or_not every_number number) [
-      | inl c ↦ c
-      | inr none ↦
-          let differs = all_tested (λ other. not (bytes_eq other number)) none number is in
-          let same = (bytes_decides number number).1 refl in
-          absurd cc
-    ]
-
--- each of a list passes a test that the list does
-passed : (test : List ℕ → Bool) (texts : List (List ℕ)) (k : ℕ) (text : List ℕ) → k < length texts → slice_index_or texts k text ≡ text
-    → list_all test texts ≡ true → test text ≡ true
-passed test texts k text inside at h =
-    ap test (sym at) ∙ and_at (list_all test) test refl (λ text texts. refl) texts k text inside h
-
--- each of the list is a number
-pub every_is : (number : List ℕ) → Contains every_number number → is_number number ≡ true
-every_is number (k, inside, at) = passed is_number every_number k number inside at (tested_all is_number (λ number is. is))

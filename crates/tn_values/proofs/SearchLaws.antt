@@ -1,13 +1,12 @@
 -- The search among sides in order: each step leaves a part in which the side `Within` may be.
-use Rattle.std.proofs.Common.{◌≡◌, ℕ, ◌+◌, ◌-◌, ◌/◌, ◌<◌, ◌≤◌, inl, inr, List, length, Some, None, arith, sym, ◌∙◌, subst}
-use Rattle.std.proofs.lemmas.Bool.{cases_lt}
+use Rattle.std.proofs.Common.{◌≡◌, ℕ, ◌+◌, ◌-◌, ◌/◌, ◌<◌, ◌≤◌, List, length, arith, sym, ◌∙◌, subst}
 use Rattle.std.proofs.lemmas.List.{get_or_default}
 use Rattle.std.specs.List.{slice_index_or}
 use Rattle.tn_values.specs.Merged.{IsMerged}
 use Rattle.tn_values.specs.NumberSet.{SetView, part_count}
-use Rattle.tn_values.specs.Sides.{IsFoundIn, sides}
+use Rattle.tn_values.specs.Sides.{sides}
 use Rattle.tn_values.specs.declared.sorted.Side.{Side}
-use Rattle.tn_values.specs.declared.sorted.Side.TheVariants.{Before, Within, After}
+use Rattle.tn_values.specs.declared.sorted.Side.TheVariants.{Before, After}
 use Rattle.tn_values.proofs.OrderLaws.{InOrder, sides_order, stays_before, was_after}
 use Rattle.tn_values.proofs.SideLaws.{side_count}
 
@@ -18,15 +17,6 @@ pub record Searched (all : List Side) (first behind low high : ℕ) : Type 0 whe
   pub within : high ≤ behind
   pub below : (k : ℕ) → first ≤ k → k < low → slice_index_or all k Before ≡ After
   pub above : (k : ℕ) → high ≤ k → k < behind → slice_index_or all k Before ≡ Before
-
-pub search_begins : (all : List Side) (first behind : ℕ) → first ≤ behind → Searched all first behind first behind
-search_begins all first behind h = record {
-  from = omega arith;
-  range = h;
-  within = omega arith;
-  below = λ k from before. absurd (omega (arith, from, before));
-  above = λ k from before. absurd (omega (arith, from, before));
-}
 
 pub goes_down : (all : List Side) (first behind low high middle : ℕ) → Searched all first behind low high → InOrder all → behind ≤ length all
     → low ≤ middle → middle < high → slice_index_or all middle Before ≡ Before → Searched all first behind low middle
@@ -67,17 +57,3 @@ search_up set number first behind low high side s merged inside left is probed =
     (omega arith) (omega (arith, left))
     (get_or_default (sides set number) (low + (high - low) / 2) Before After (omega (arith, count, inside, ends, left))
     ∙ sym (subst (λ (x : Side). x ≡ slice_index_or (sides set number) (low + (high - low) / 2) x) is probed))
-
-pub search_ends : (all : List Side) (first behind low high : ℕ) → Searched all first behind low high → high ≤ low → IsFoundIn all first behind None
-search_ends all first behind low high s done k from before is =
-    elim (cases_lt k low) [
-      | inl front ↦ (let after = s.below k from front in absurd cc)
-      | inr back ↦ (let first = s.above k (omega (arith, back, done)) before in absurd cc)
-    ]
-
-pub search_finds : (all : List Side) (first behind low high middle : ℕ) → Searched all first behind low high → low ≤ middle → middle < high
-    → slice_index_or all middle Before ≡ Within → IsFoundIn all first behind (Some middle)
-search_finds all first behind low high middle s from before is =
-    let begin = s.from in
-    let ends = s.within in
-    (omega (arith, begin, from), omega (arith, before, ends), is)

@@ -10,9 +10,6 @@ pub record Halved (before after entries left : ℕ) : Type 0 where
   pub product : 2 ^ steps * left ≤ entries
   pub few : 2 ^ steps ≤ 2 * entries + 1
 
-pub halving_begins : (before entries : ℕ) → Halved before before entries entries
-halving_begins before entries = record { steps = 0; added = omega arith; product = omega arith; few = omega arith }
-
 pub halving_goes_on : (before after entries left less : ℕ) → Halved before after entries left → 1 ≤ left → 2 * less ≤ left
     → Halved before (after + 1) entries less
 halving_goes_on before after entries left less h some half =

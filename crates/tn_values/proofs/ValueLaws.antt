@@ -67,11 +67,6 @@ digit_from_48 text i h inside =
     let small = digit_small (get_or text i 0) (digit_at text i h inside) in
     (omega (arith, last, small), omega (arith, last, small))
 
-pub short_below : (text : List ℕ) → are_digits text ≡ true → length text ≤ 15 → value_of text < 10 ^ 15
-short_below text h short =
-    let most : 10 ^ length text ≤ 10 ^ 15 = pow-le-pow_right (omega arith) short in
-    omega (arith, value_below text h, most)
-
 -- ---- the value tells the digits
 
 same_after : (n m : ℕ) (a b : List ℕ) → are_digits a ≡ true → are_digits b ≡ true → length a ≡ length b

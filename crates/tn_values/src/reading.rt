@@ -1,5 +1,5 @@
 //! From a text to its canonical number.
-ghost use Rattle.std.specs.Prelude.{◌≡◌, IsTrue};
+ghost use Rattle.std.specs.Prelude.{◌≡◌, IsTrue, IfSome, Some};
 ghost use Rattle.std.specs.Option.{option_map};
 ghost use Rattle.tn_values.specs.Number.{exact};
 ghost use Rattle.tn_values.specs.Canon.{Canon, is_national, with_country};
@@ -9,9 +9,31 @@ use crate::kept::{Kept, kept_of};
 use crate::numbering::Local;
 use crate::numbers::Number;
 
-/// The canonical number that a text stands for, or None if there is none.
-#[tactic(auto, unfolding(crate::specs::Canon::Canon, crate::specs::Number::is_number))]
+/// The canonical number that a text stands for, or None if there is none. Most texts have no separators, and are read
+/// as they stand.
 pub(crate) fn canonical(text: &[u8], local: &Local) -> Option<Number>
+    ensures { result ≡ Canon text.now local.now }
+{
+    match as_it_stands(text, local) {
+        Some(number) => Some(number),
+        None => without_separators(text, local),
+    }
+}
+
+/// The number of a text without separators, or None if it has some or stands for none.
+#[tactic(auto, using(crate::proofs::CanonLaws::stands_after_plus, crate::proofs::CanonLaws::stands_plainly))]
+fn as_it_stands(text: &[u8], local: &Local) -> Option<Number>
+    ensures { IfSome result (λ number. Canon text.now local.now ≡ Some number) }
+{
+    match text.split_first() {
+        Some((first, rest)) if *first == b'+' => Number::exact(rest),
+        _ => completed(text, local),
+    }
+}
+
+/// The canonical number that a text with separators stands for, or None if there is none.
+#[tactic(auto, unfolding(crate::specs::Canon::Canon, crate::specs::Number::is_number))]
+fn without_separators(text: &[u8], local: &Local) -> Option<Number>
     ensures { result ≡ Canon text.now local.now }
 {
     let Some(kept) = kept_of(text) else {
