@@ -198,7 +198,3 @@ fault_by bytes f e (inr g) =
 -- what is read as a fault is the first one
 pub read_fault : (bytes : List ℕ) (f : FormFault) → read bytes ≡ Err f → FormOf bytes f
 read_fault bytes f e = fault_by bytes f e (either bytes)
-
--- bytes are one message at most
-pub head_unique : (bytes : List ℕ) (m n : MessageView) → Head bytes m → Head bytes n → m ≡ n
-head_unique bytes m n h k = let r = head_read bytes m h in let s = head_read bytes n k in cc

@@ -17,6 +17,7 @@ pub mod HeadSteps
 pub mod KnownLaws
 pub mod LengthLaws
 pub mod LineSteps
+pub mod NumberTextLaws
 pub mod PlaceLaws
 pub mod SchemeLaws
 pub mod ShortLaws

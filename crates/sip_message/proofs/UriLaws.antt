@@ -15,7 +15,7 @@ use Rattle.sip_message.proofs.UpToLaws.{before_first, before_front, before_is, b
 -- ---- what is read is given
 
 -- the user part up to its first `;` or `:`
-user_front : (user : List ℕ) → before 58 (before 59 user) ≡ front_of ends_user user
+pub user_front : (user : List ℕ) → before 58 (before 59 user) ≡ front_of ends_user user
 user_front user = before_front (λ b. b == 59) 58 user (before 59 user) (before_first 59 user)
 
 record IsUser (local : LocalView) (rest number : List ℕ) : Type 0 where

@@ -2,9 +2,10 @@
 ghost use Rattle.std.specs.Prelude.{◌≡◌};
 ghost use Rattle.std.specs.Option.{option_copied};
 ghost use Rattle.sip_message.specs.Address.{address, address_number, before, uri_number, behind_bracket, behind_scheme};
-ghost use Rattle.sip_message.specs.Address.{user_number};
+ghost use Rattle.sip_message.specs.Address.{tel_number, user_number};
 ghost use Rattle.sip_message.specs.Quoting.{after, bracket_from};
 ghost use Rattle.sip_message.specs.declared.address.Quoting.TheVariants.{Outside};
+ghost use Rattle.tn_values.specs.Canon.{Canon};
 
 use text_grammar::cut;
 use tn_values::{Local, Number};
@@ -46,7 +47,7 @@ pub fn uri_number(uri: &[u8], local: &Local) -> Option<Number>
     ensures { result ≡ uri_number uri.now local.now }
 {
     if let Some(text) = behind_scheme(uri, b"tel:") {
-        return Number::read(before(text, b';'), local);
+        return tel_number(text, local);
     }
     if let Some(text) = behind_scheme(uri, b"sip:") {
         return user_number(text, local);
@@ -62,8 +63,30 @@ fn user_number(text: &[u8], local: &Local) -> Option<Number>
     ensures { result ≡ user_number local.now text.now }
 {
     match cut(text, b'@') {
-        Some((user, _)) => Number::read(before(before(user, b';'), b':'), local),
+        Some((user, _)) => user_part_number(user, local),
         None => None,
+    }
+}
+
+/// The number of a user part up to its first `;` or `:`. A text that stands for a number has neither, so the whole part
+/// is read first.
+fn user_part_number(user: &[u8], local: &Local) -> Option<Number>
+    ensures { result ≡ Canon (before 58 (before 59 user.now)) local.now }
+{
+    match Number::read(user, local) {
+        Some(number) => Some(number),
+        None => Number::read(before(before(user, b';'), b':'), local),
+    }
+}
+
+/// The number of the text after `tel:` up to its first `;`. A text that stands for a number has none, so all of it is
+/// read first.
+fn tel_number(text: &[u8], local: &Local) -> Option<Number>
+    ensures { result ≡ tel_number local.now text.now }
+{
+    match Number::read(text, local) {
+        Some(number) => Some(number),
+        None => Number::read(before(text, b';'), local),
     }
 }
 
