@@ -1,59 +1,29 @@
 -- The field's parts are in their rows, and its value can be written in a line.
-use Rattle.std.proofs.Common.{◌≡◌, ℕ, ◌≤◌, true, false, not, List, [], ◌∷◌, ◌++◌, length, reverse, codes, Option, Some, None, Result, Ok, Err, IfOk, IfSome, IsTrue, refl, sym, ap, subst, ◌∙◌, arith, length-append}
-use Rattle.std.specs.List.{list_all}
+use Rattle.std.proofs.Common.{◌≡◌, ℕ, ◌≤◌, true, false, not, List, [], ◌∷◌, ◌++◌, length, reverse, codes, Option, Some, Result, Ok, Err, IfOk, IsTrue, refl, sym, ap, subst, ◌∙◌, arith, length-append}
 use Rattle.std.specs.Str.{bytes_eq}
-use Rattle.std.proofs.lemmas.Bool.{and_parts}
-use Rattle.std.proofs.lemmas.Bool.Decides.{nat_tests}
 use Rattle.std.proofs.lemmas.List.{reverse-reverse}
 use Rattle.lists.proofs.Bytes.{same_bytes}
-use Rattle.text_grammar.specs.Bytes.{is_empty, is_letter, is_uri_byte}
+use Rattle.text_grammar.specs.Bytes.{is_empty}
 use Rattle.text_grammar.specs.Cut.{lacks}
-use Rattle.text_grammar.specs.Grammar.{Any, Run}
+use Rattle.text_grammar.specs.Grammar.{Run}
 use Rattle.text_grammar.specs.Uri.{is_uri}
 use Rattle.identity_header.specs.FieldText.{FieldText}
 use Rattle.identity_header.specs.OneLine.{IsOneLine, begins_blank}
-use Rattle.identity_header.specs.Parts.{InRows, Parts, is_digest_byte, is_quoted_byte, parts}
+use Rattle.identity_header.specs.Parts.{Parts, is_digest_byte, parts}
 use Rattle.identity_header.specs.Read.{read as read_field}
 use Rattle.identity_header.specs.Spelling.{param_text, spelling}
 use Rattle.sip_message.specs.Added.{is_field_value}
 use Rattle.sip_message.specs.Value.{trimmed, trimmed_front}
 use Rattle.passport_json.specs.Spelled.{IsSignature, compact_text, is_token_byte}
-use Rattle.passport_claims.specs.Kind.{IsTypeText, ppt_of}
+use Rattle.passport_claims.specs.Kind.{ppt_of}
 use Rattle.passport_claims.specs.Passport.{ClaimsView}
 use Rattle.passport_claims.specs.Signed.{IsSignable, signing_of}
-use Rattle.passport_claims.specs.declared.kind.Kind.{Kind}
-use Rattle.passport_claims.proofs.KindLaws.{type_text}
 use Rattle.auth_service.specs.declared.wanted.Shape.{Shape}
 use Rattle.auth_service.specs.declared.wanted.Shape.TheVariants as shapes
-use Rattle.auth_service.specs.Field.{field_of, token_by, value_of}
+use Rattle.auth_service.specs.Field.{field_of, token_by}
 use Rattle.auth_service.specs.Written.{IsWrittenField}
 
 -- ---- the rows
-
-alg_row : IfSome (Some (codes "ES256")) (Any is_quoted_byte)
-alg_row = refl
-
--- a letter may stand between quotes
-letter_quoted : (b : ℕ) → is_letter b ≡ true → is_quoted_byte b ≡ true
-letter_quoted b h = grind (arith, nat_tests)
-
-letters_quoted : (text : List ℕ) → list_all is_letter text ≡ true → list_all is_quoted_byte text ≡ true
-letters_quoted [] h = refl
-letters_quoted (b ∷ bs) h =
-    let t = and_parts (is_letter b) (list_all is_letter bs) h in
-    let one : is_quoted_byte b ≡ true = letter_quoted b t.0 in
-    rw (one, letters_quoted bs t.1) refl
-
-text_row : (ppt : Option (List ℕ)) → IfSome ppt IsTypeText → IfSome ppt (Any is_quoted_byte)
-text_row None h = tt
-text_row (Some text) h = letters_quoted text h.each
-
-pub ppt_row : (kind : Kind) → IfSome (ppt_of kind) (Any is_quoted_byte)
-ppt_row kind = text_row (ppt_of kind) (type_text kind)
-
-pub in_rows : (token x5u : List ℕ) (ppt : Option (List ℕ)) → Run is_digest_byte 8192 token → Run is_uri_byte 2048 x5u → IfSome ppt (Any is_quoted_byte)
-    → InRows (parts token x5u (Some (codes "ES256")) ppt)
-in_rows token x5u ppt t x p = record { token = t; info = x; alg = alg_row; ppt = p }
 
 -- a token of either form is in its row
 pub token_row : ((signature : List ℕ) → IsSignature signature → Run is_token_byte 8192 (compact_text signature)) → (shape : Shape) (claims : ClaimsView) (signature : List ℕ)
@@ -99,14 +69,6 @@ spelled_some token x5u alg ppt some =
       length-append (token ++ codes ";info=<" ++ x5u ++ codes ">") (param_text (codes ";alg=") alg),
       length-append (token ++ codes ";info=<" ++ x5u ++ codes ">" ++ param_text (codes ";alg=") alg) (param_text (codes ";ppt=") ppt),
     )
-
--- what is written of the field, as the code has it
-pub value_exact : {X E : Type 0} (answer : Result X E) (seen : X → List ℕ) (shape : Shape) (claims : ClaimsView) (signature token : List ℕ) (field : Parts)
-    → token ≡ token_by shape (signing_of claims) signature → field ≡ parts token claims.x5u (Some (codes "ES256")) (ppt_of claims.kind)
-    → IfOk answer (λ text. seen text ≡ spelling field) → IfOk answer (λ text. seen text ≡ value_of shape claims signature)
-value_exact (Ok text) seen shape claims signature token field t f w =
-    w ∙ ap spelling (f ∙ ap (λ x. parts x claims.x5u (Some (codes "ES256")) (ppt_of claims.kind)) t)
-value_exact (Err fault) seen shape claims signature token field t f w = tt
 
 pub value_written : {X E : Type 0} (answer : Result X E) (seen : X → List ℕ) (shape : Shape) (claims : ClaimsView) (signature token : List ℕ) (field : Parts)
     → token ≡ token_by shape (signing_of claims) signature → field ≡ parts token claims.x5u (Some (codes "ES256")) (ppt_of claims.kind) → Run is_digest_byte 8192 token

@@ -9,7 +9,7 @@ use Rattle.text_grammar.specs.Bytes.{is_letter, is_uri_byte}
 use Rattle.text_grammar.specs.Uri.{is_uri}
 use Rattle.identity_header.specs.Spelling.{is_bare, param_text, spelling, value_text}
 use Rattle.identity_header.specs.Parts.{is_bare_byte, parts}
-use Rattle.sip_message.specs.Added.{added, head_end, is_addable, sized_or_fault, with_line, written_field}
+use Rattle.sip_message.specs.Added.{added, head_end, sized_or_fault, with_line, written_field}
 use Rattle.sip_message.specs.Message.{MessageView}
 use Rattle.sip_message.specs.declared.fault.FormFault.{FormFault}
 use Rattle.passport_json.specs.Spelled.{IsSignature, compact_text, full_text}
@@ -24,9 +24,6 @@ use Rattle.auth_service.specs.Order.{OrderView, is_order, kind_of}
 use Rattle.auth_service.specs.Signed.{is_too_long, no_signature}
 use Rattle.auth_service.specs.Written.{HasRoomFor, IsFor, line_size, type_size}
 use Rattle.auth_service.proofs.MadeLaws.{order_parts}
-
-pub identity_addable : IsTrue (is_addable (codes "Identity"))
-identity_addable = refl
 
 -- ---- a signature of zeros
 

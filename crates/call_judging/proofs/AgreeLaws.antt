@@ -44,17 +44,17 @@ authority_by judged says other agree has =
     let test : (is_none judged.profile && (is_none judged.shape && is_none judged.authority)) ≡ true = rw (has.path.profile, has.path.shape, has.authority) refl in
     subst (λ t. AgreeOn says other (cond t (questions_of judged) [])) test agree
 
-size_agree : SameJudged → (world : World) (other : Says) (bytes : List ℕ) (t : Bool)
-    → AgreeOn world.says other (chain_questions (cond t long (have (judged_of world.anchors world.table world.says bytes))))
-    → cond t long (have (judged_of world.anchors world.table other bytes)) ≡ cond t long (have (judged_of world.anchors world.table world.says bytes))
-size_agree law world other bytes true agree = refl
-size_agree law world other bytes false agree =
-    ap have (law world.anchors world.table world.says other bytes (authority_by (judged_of world.anchors world.table world.says bytes) world.says other agree))
+pub size_agree : SameJudged → (anchors : List CertView) (table : Table) (says other : Says) (bytes : List ℕ) (t : Bool)
+    → AgreeOn says other (chain_questions (cond t long (have (judged_of anchors table says bytes))))
+    → cond t long (have (judged_of anchors table other bytes)) ≡ cond t long (have (judged_of anchors table says bytes))
+size_agree law anchors table says other bytes true agree = refl
+size_agree law anchors table says other bytes false agree =
+    ap have (law anchors table says other bytes (authority_by (judged_of anchors table says bytes) says other agree))
 
 content_agree : SameJudged → (world : World) (other : Says) (content : Option (List ℕ)) → AgreeOn world.says other (chain_questions (truth_by world content))
     → truth_by (with_says world other) content ≡ truth_by world content
 content_agree law world other None agree = refl
-content_agree law world other (Some bytes) agree = size_agree law world other bytes (nat_lt 49152 (length bytes)) agree
+content_agree law world other (Some bytes) agree = size_agree law world.anchors world.table world.says other bytes (nat_lt 49152 (length bytes)) agree
 
 truth_agree : SameJudged → (world : World) (other : Says) (one : Reading) → AgreeOn world.says other (chain_questions (truth_for world one))
     → truth_for (with_says world other) one ≡ truth_for world one

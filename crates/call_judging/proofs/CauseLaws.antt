@@ -6,9 +6,6 @@ use Rattle.std.proofs.lemmas.List.Folds.{list_any-append}
 use Rattle.stir_outside.proofs.CountLaws.{rose_then, then_rose}
 use Rattle.call_judging.specs.Causes.{HasCauseIf}
 
-false_is_not_true : false ≡ true → ⊥
-false_is_not_true e = cc
-
 pub cause_then : (set_aside : Bool) (before mid now : ℕ) → before ≤ mid → HasCauseIf set_aside before mid → mid ≤ now → HasCauseIf set_aside before now
 cause_then set_aside before mid now stayed cause further = λ is. rose_then before mid now stayed (cause is) further
 
@@ -27,6 +24,3 @@ pub cause_more : {A : Type 0} → (p : A → Bool) (xs : List A) (x : A) (before
     → HasCauseIf (list_any p xs) before mid → HasCauseIf (p x) mid now → HasCauseIf (list_any p (xs ++ x ∷ [])) before now
 cause_more p xs x before mid now stayed further first second =
     subst (λ b. HasCauseIf b before now) (sym (any_more p xs x)) (either_cause (list_any p xs) (p x) before mid now stayed further first second)
-
-pub cause_none : {A : Type 0} → (p : A → Bool) (before : ℕ) → HasCauseIf (list_any p []) before before
-cause_none p before = λ is. absurd (false_is_not_true is)

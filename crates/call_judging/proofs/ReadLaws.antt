@@ -1,5 +1,5 @@
 -- What is known of a chain is right over the files that the shelf tells, from the laws on what is told.
-use Rattle.std.proofs.Common.{◌≡◌, ℕ, zero, suc, ◌+◌, ◌<◌, ◌≤◌, List, [], ◌∷◌, ◌++◌, length, take, Option, Some, None, Result, Ok, Err, IfOk, refl, ap, sym, ◌∙◌, subst, arith}
+use Rattle.std.proofs.Common.{◌≡◌, ℕ, zero, suc, ◌+◌, ◌<◌, ◌≤◌, List, [], ◌∷◌, ◌++◌, length, take, Option, Some, None, refl, ap, sym, ◌∙◌, subst, arith}
 use Rattle.std.specs.List.{slice_get}
 use Rattle.std.specs.Option.{option_map}
 use Rattle.std.proofs.lemmas.Option.{same_Some}
@@ -9,7 +9,7 @@ use Rattle.cert_store.specs.Rules.{Says}
 use Rattle.stir_outside.specs.Files.{Files, IsLonger, OfFile, file}
 use Rattle.passport_claims.specs.Passport.{ClaimsView}
 use Rattle.verify_rules.specs.Call.{Reading, passport_in}
-use Rattle.verify_rules.specs.States.{State, have, no_chain, long, unread}
+use Rattle.verify_rules.specs.States.{State, have, no_chain, long}
 use Rattle.verify_rules.specs.World.{World, AreRight, IsRight}
 use Rattle.call_judging.specs.Chains.{AreRightWhere, IsRightWhere, world_by}
 use Rattle.cert_store.specs.declared.world.World.{World as Materials}
@@ -31,12 +31,6 @@ pub right_long : (told : Option Files) (materials : Materials) (says : Says) (x5
     → listed materials.chains x5u ≡ Some name → OfFile told name (IsLonger 49152) → IsRightWhere told materials says x5u long
 right_long None materials says x5u name law is longer = tt
 right_long (Some files) materials says x5u name law is longer = law (world_by materials files says) x5u name is longer
-
-pub right_unread : (told : Option Files) (materials : Materials) (says : Says) (x5u name : List ℕ)
-    → ((world : World) (x5u name : List ℕ) → listed world.chains x5u ≡ Some name → IsRight world x5u unread)
-    → listed materials.chains x5u ≡ Some name → IsRightWhere told materials says x5u unread
-right_unread None materials says x5u name law is = tt
-right_unread (Some files) materials says x5u name law is = law (world_by materials files says) x5u name is
 
 pub right_judged : (told : Option Files) (materials : Materials) (says : Says) (x5u name bytes : List ℕ) (judged : JudgedView)
     → ((world : World) (x5u name bytes : List ℕ) (judged : JudgedView) → listed world.chains x5u ≡ Some name → file name world.files ≡ Some bytes

@@ -220,6 +220,3 @@ found passed call moment said number message left now e n room m s forward size 
 pub moment_goes_on : (passed : Passed) (moment : ℕ) (left mid now : Option (List ℕ)) (r : Result (Option Entry) LogFault) → Consumes left mid (decimal moment ++ 32 ∷ []) → Finds passed (64 ∷ (decimal moment ++ 32 ∷ [])) mid now r
     → Finds passed (64 ∷ []) left now r
 moment_goes_on passed moment left mid now r c f = goes_on passed (64 ∷ []) (decimal moment ++ 32 ∷ []) left mid now r c (λ e. cc) f
-
-pub at_goes_on : (passed : Passed) (byte : ℕ) (left mid now : Option (List ℕ)) (r : Result (Option Entry) LogFault) → byte ≡ 64 → Consumes left mid (byte ∷ []) → Finds passed (64 ∷ []) mid now r → Finds passed [] left now r
-at_goes_on passed byte left mid now r e c f = goes_on passed [] (64 ∷ []) left mid now r (subst (λ x. Consumes left mid (x ∷ [])) e c) (λ e. cc) f

@@ -5,10 +5,8 @@ use Rattle.std.proofs.lemmas.Option.{slice_get_read}
 use Rattle.std.proofs.lemmas.List.Sums.{count_by_more_no, count_by_more_yes}
 use Rattle.stir_outside.specs.Count.{last_count, one_more}
 use Rattle.x509_profile.specs.View.{CertView}
-use Rattle.cert_store.specs.declared.judged.Asked.{Asked}
-use Rattle.cert_store.specs.declared.judged.Asked.TheVariants.{NotAsked, No, Failed}
-use Rattle.cert_store.specs.Asking.{Answers, IsOpen, IsQuestion, Keys, RoseBy, asked_by, first_refused, questions}
-use Rattle.cert_store.specs.Judged.{HasAsked, JudgedView}
+use Rattle.cert_store.specs.declared.judged.Asked.TheVariants.{No, Failed}
+use Rattle.cert_store.specs.Asking.{Answers, IsOpen, IsQuestion, Keys, RoseBy, asked_by, first_refused}
 use Rattle.cert_store.specs.Rules.{Says}
 
 -- ---- what is answered
@@ -143,14 +141,3 @@ counted keys key point index before now new rose inside is some one stay =
     let more : count_by is_some (take (index + 1) keys) ≡ count_by is_some (take index keys) + 1 = count_by_more_yes is_some keys index key inside (ap is_some (sym is) ∙ ap is_some some) in
     let P : ℕ → Type 0 = λ n. RoseBy n before new in
     subst P (sym more) (rose_more (count_by is_some (take index keys)) before now new rose one stay)
-
-none_by : (keys : Keys) (asked : Asked) (before now : ℕ) → RoseBy (questions keys asked) before now → asked ≡ NotAsked → now ≡ before
-none_by keys asked before now rose none =
-    let P : Asked → Type 0 = λ a. RoseBy (questions keys a) before now in
-    let r : RoseBy 0 before now = subst P none rose in
-    let a = r.never_falls in
-    let b = r.most in
-    omega (arith, a, b)
-
-pub has_asked : (judged : JudgedView) (before now : ℕ) → RoseBy (questions judged.keys judged.asked) before now → now ≤ before + length judged.certificates → HasAsked before now judged
-has_asked judged before now rose most = record { exact = rose; most = most; none = none_by judged.keys judged.asked before now rose }

@@ -95,10 +95,6 @@ holds_more rows row key file old new k f put holds none = record {
       ∙ pushed_by rows row x5u (bytes_eq row.x5u x5u) refl none;
 }
 
-some_kept : {Z : Type 0} (found : Option (String Z)) → is_some (option_map string_bytes found) ≡ is_some found
-some_kept None = refl
-some_kept (Some file) = refl
-
 -- what the rows say of the row's x5u is what was kept for it
 was_listed : {Y Z : Type 0} (rows : List Row) (row : Row) (key : Vec ℕ Y) (old : List (Vec ℕ Y × String Z)) (before : Option (String Z)) → vec_items key ≡ row.x5u
     → before ≡ kept old (vec_items key) → HoldsRows rows (files_in old) → option_map string_bytes before ≡ file_in rows row.x5u

@@ -1,5 +1,5 @@
 -- What is known of a list by the one at an index.
-use Rattle.std.proofs.Common.{◌≡◌, ℕ, zero, suc, ◌<◌, ◌≤◌, ◌||◌, Bool, true, false, List, [], ◌∷◌, ◌++◌, length, drop, get_or, ◌+◌, Some, refl, sym, ap, ◌∙◌, append_assoc, length-append, arith}
+use Rattle.std.proofs.Common.{◌≡◌, ℕ, zero, suc, ◌<◌, ◌≤◌, ◌||◌, Bool, true, false, List, [], ◌∷◌, ◌++◌, length, drop, ◌+◌, Some, refl, sym, ap, ◌∙◌, append_assoc, length-append, arith}
 use Rattle.std.proofs.lemmas.Bool.{and_parts}
 use Rattle.std.specs.List.{list_all, list_any, slice_get}
 use Rattle.der_reader.specs.Elem.{element_text}
@@ -64,9 +64,3 @@ pub elements_next : {X : Type 0} (tag : ℕ) (content : X → List ℕ) (out : L
 elements_next tag content out xs index x all at same =
     append_assoc out (element_text tag (content x)) (elements tag content (drop (index + 1) xs))
     ∙ ap (λ r. out ++ r) (sym (ap (elements tag content) (next_at xs index x at))) ∙ same
-
--- what a read of an element gives
-pub got : {X : Type 0} (xs : List X) (index : ℕ) (x : X) → index < length xs → x ≡ get_or xs index x → slice_get xs index ≡ Some x
-got [] index x within is = absurd (omega (arith, within))
-got (y ∷ ys) zero x within is = ap (λ x. Some x) (sym is)
-got (y ∷ ys) (suc index) x within is = got ys index x (omega (arith, within)) is

@@ -24,13 +24,6 @@ said_small n m e l = of (nat_le m 65535) refl e
     of true t e = sym e
     of false t e = absurd (omega (arith, e, l))
 
-pub said_past : (n m : ℕ) → n ≡ capped m → 65536 ≤ n → 65536 ≤ m
-said_past n m e l = of (nat_le m 65535) refl e
-  where
-    of : (t : Bool) → nat_le m 65535 ≡ t → n ≡ cond t m 65536 → 65536 ≤ m
-    of true t e = let k : m ≤ 65535 = grind (arith, nat_tests, t) in absurd (omega (arith, e, l, k))
-    of false t e = grind (arith, nat_tests, t)
-
 -- capped parts make a capped whole
 pub both_capped : (a b m n : ℕ) → a ≡ capped m → b ≡ capped n → capped (a + b) ≡ capped (m + n)
 both_capped a b m n e f = of (nat_le m 65535) (nat_le n 65535) refl refl
@@ -47,13 +40,6 @@ both_capped a b m n e f = of (nat_le m 65535) (nat_le n 65535) refl refl
     of true false s t =
         let k : 65536 ≤ n = grind (arith, nat_tests, t) in
         past (a + b) (omega (arith, f, past n k)) ∙ sym (past (m + n) (omega (arith, k)))
-
-pub at_most : (n m : ℕ) → n ≡ capped m → n ≤ 65536
-at_most n m e = of (nat_le m 65535) refl e
-  where
-    of : (t : Bool) → nat_le m 65535 ≡ t → n ≡ cond t m 65536 → n ≤ 65536
-    of true t e = let k : m ≤ 65535 = grind (arith, nat_tests, t) in omega (arith, e, k)
-    of false t e = omega (arith, e)
 
 -- ---- an element
 

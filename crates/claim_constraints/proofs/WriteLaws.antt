@@ -1,29 +1,10 @@
 -- What is written is within its size, since the whole is.
-use Rattle.std.proofs.Common.{◌≡◌, ℕ, ◌+◌, ◌<◌, ◌≤◌, List, [], ◌∷◌, ◌++◌, length, drop, get_or, ap, length-append, arith}
-use Rattle.std.proofs.lemmas.List.{at_drop_more}
+use Rattle.std.proofs.Common.{ℕ, ◌+◌, ◌<◌, ◌≤◌, List, [], ◌∷◌, ◌++◌, length, length-append, arith}
 use Rattle.der_reader.specs.Elem.{element_text}
 use Rattle.der_reader.specs.Tags.{ia5_string_tag, sequence_tag}
 use Rattle.claim_constraints.specs.Constraints.{ConstraintsView, PermitView}
 use Rattle.claim_constraints.specs.ConstraintsText.{constraints_text, elements, must_part, part_text, permit_content, permits_part, values_text}
 use Rattle.claim_constraints.proofs.ElementLaws.{longer}
-
--- the content of one of the elements
-pub one_small : {X : Type 0} (tag : ℕ) (content : X → List ℕ) (out : List ℕ) (xs : List X) (index : ℕ) (x : X)
-    → out ++ elements tag content (drop index xs) ≡ elements tag content xs → index < length xs → x ≡ get_or xs index x
-    → length (elements tag content xs) < 65536 → length (content x) ≤ 65535
-one_small tag content out xs index x same within is all =
-    let more : elements tag content (drop index xs) ≡ element_text tag (content (get_or xs index x)) ++ elements tag content (drop (index + 1) xs) =
-    at_drop_more (elements tag content) xs index x within in
-    omega (
-      arith,
-      all,
-      ap length same,
-      length-append out (elements tag content (drop index xs)),
-      ap length more,
-      length-append (element_text tag (content (get_or xs index x))) (elements tag content (drop (index + 1) xs)),
-      longer tag (content (get_or xs index x)),
-      ap (λ x. length (content x)) is,
-    )
 
 -- the two parts
 pub parts_small : (c : ConstraintsView) → length (constraints_text c) ≤ 65535

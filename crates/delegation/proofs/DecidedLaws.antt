@@ -23,7 +23,7 @@ use Rattle.delegation.specs.Coverage.{Table, In, Owns, Covers, ListWithin, Withi
 use Rattle.delegation.specs.Gathered.{has_codes_of, no_numbers}
 use Rattle.delegation.specs.Decided.{is_owned, is_granted, is_in, owns_number, covers_number, keeps_number, is_list_within, is_within}
 use Rattle.delegation.proofs.SetLaws.{owns_added}
-use Rattle.delegation.proofs.AuthorityLaws.{codes_had, itself, without_code}
+use Rattle.delegation.proofs.AuthorityLaws.{codes_had, without_code}
 
 -- ---- some entry
 
@@ -147,10 +147,6 @@ pub decides : (child parent : Option (List Entry)) (table : Table) → IsTrue (i
 decides child None table = (λ _. tt, λ _. refl)
 decides None (Some parent) table = (λ h. absurd cc, λ w. absurd w)
 decides (Some child) (Some parent) table = (list_means child parent table, means_list child parent table)
-
--- each authority lies within itself
-pub within_itself : (a : Option (List Entry)) (table : Table) → is_within a a table ≡ true
-within_itself a table = (decides a a table).1 (itself a table)
 
 -- an answer that is true exactly if the one lies within the other is that of the test
 pub same_answer : {E : Type 0} (r : Result Bool E) (child parent : Option (List Entry)) (table : Table)

@@ -1,5 +1,5 @@
 -- What holds of some entry of a list, by its place and at the ends of lists.
-use Rattle.std.proofs.Common.{◌≡◌, ℕ, zero, suc, ◌<◌, ◌≤◌, ◌⊎◌, inl, inr, List, [], ◌∷◌, ◌++◌, length, drop, Any, arith, sym, subst}
+use Rattle.std.proofs.Common.{◌≡◌, ℕ, zero, suc, ◌<◌, ◌⊎◌, inl, inr, List, [], ◌∷◌, ◌++◌, length, Any, arith, sym, subst}
 use Rattle.std.proofs.lemmas.List.Elements.{Contains-append_left, Contains-append_right, Contains-append_cases, Contains-push_cases}
 use Rattle.std.specs.List.{slice_index_or}
 use Rattle.tn_auth_list.specs.CodeTable.{SomeOf}
@@ -10,20 +10,6 @@ pub some_at : {X : Type 0} (P : X → Type 0) (xs : List X) (i : ℕ) (x : X) �
 some_at P [] i x inside at p = absurd (omega (arith, inside))
 some_at P (y ∷ xs) zero x inside at p = inl (subst P at p)
 some_at P (y ∷ xs) (suc i) x inside at p = inr (some_at P xs i x (omega (arith, inside)) at p)
-
--- an entry that isn't one can be left out
-pub not_here : {X : Type 0} (P : X → Type 0) (xs : List X) (i : ℕ) (x : X) → i < length xs → x ≡ slice_index_or xs i x → (P x → ⊥)
-    → SomeOf P (drop i xs) → SomeOf P (drop (suc i) xs)
-not_here P [] i x inside at refused p = absurd (omega (arith, inside))
-not_here P (y ∷ xs) zero x inside at refused (inl p) = absurd (refused (subst P (sym at) p))
-not_here P (y ∷ xs) zero x inside at refused (inr p) = p
-not_here P (y ∷ xs) (suc i) x inside at refused p = not_here P xs i x (omega (arith, inside)) at refused p
-
-pub none_left : {X : Type 0} (P : X → Type 0) (xs : List X) (i : ℕ) → length xs ≤ i → SomeOf P (drop i xs) → ⊥
-none_left P [] zero long p = p
-none_left P [] (suc i) long p = p
-none_left P (y ∷ xs) zero long p = absurd (omega (arith, long))
-none_left P (y ∷ xs) (suc i) long p = none_left P xs i (omega (arith, long)) p
 
 -- ---- two lists, one after the other
 

@@ -170,14 +170,3 @@ scalar_found tag content bytes e =
     length-append (replicate (32 - length (magnitude content)) 0) (magnitude content)
     ∙ omega (arith, length-replicate {A = ℕ} (32 - length (magnitude content)) 0) in
     (grind (arith, nat_tests), sym (ap length is) ∙ all, subst (IntegerText content) same (integer_is content test))
-
--- the number of the content is what `scalar_of` gives
-pub scalar_again : (tag : ℕ) (content : List ℕ) (number : ℕ) → tag ≡ integer_tag → IntegerText content number → number < 2 ^ 256
-    → (scalar_of tag content ≡ Ok (scalar_bytes content)) × (big_endian (scalar_bytes content) ≡ number)
-unfolding scalar_of
-scalar_again tag content number t text l =
-    let few : length (magnitude content) ≤ 32 = short (length (magnitude content)) (λ long. long_magnitude content number text long l) in
-    (grind (arith, nat_tests), scalar_value content ∙ text.value)
-  where
-    short : (n : ℕ) → (32 < n → ⊥) → n ≤ 32
-    short n never = grind arith

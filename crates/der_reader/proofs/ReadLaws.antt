@@ -1,13 +1,13 @@
 -- One pass over a reading: what it gives is so, and it ends with a fault exactly if something is wrong.
-use Rattle.std.proofs.Common.{◌≡◌, ◌↔◌, ℕ, Bool, true, cond, List, [], Option, Some, Result, Ok, Err, refl, sym, ap, subst, ◌∙◌}
+use Rattle.std.proofs.Common.{◌≡◌, ◌↔◌, ℕ, Bool, true, cond, List, [], Result, Ok, Err, refl, sym, ap, subst, ◌∙◌}
 use Rattle.lists.specs.Steps.{◌>>=◌}
 use Rattle.lists.proofs.StepLaws.{inside, taken}
 use Rattle.der_reader.specs.declared.part.Fault.{Fault}
 use Rattle.der_reader.specs.Broken.{AtEnd, First, IsTagged, LeftOver, Through, Unless}
 use Rattle.der_reader.specs.Elem.{AllBytes}
-use Rattle.der_reader.specs.Part.{ItemView, PartView, at_kind, element_at, end_at, item_at, or_broken, or_fault}
-use Rattle.der_reader.proofs.BrokenLaws.{Tells, at_end_tells, broken_tells, element_tells, end_tells, first_tells, last_tells, tested, through_tells, told, unless_tells, value_tells}
-use Rattle.der_reader.proofs.PartLaws.{Begins, came_by, element_came, ended, item_came, there, unbroken}
+use Rattle.der_reader.specs.Part.{ItemView, PartView, at_kind, element_at, end_at, item_at, or_broken}
+use Rattle.der_reader.proofs.BrokenLaws.{Tells, at_end_tells, broken_tells, element_tells, end_tells, first_tells, last_tells, tested, through_tells, told, unless_tells}
+use Rattle.der_reader.proofs.PartLaws.{Begins, came_by, element_came, ended, item_came, unbroken}
 
 pub record Reads {A : Type 0} (r : Result A Fault) (Good : A → Type 0) (Wrong : Fault → Type 0) : Type 0 where
   pub found : (x : A) → r ≡ Ok x → Good x
@@ -44,14 +44,6 @@ pub broken_reads : {A X E : Type 0} (r : Result X E) (item : ItemView) (kind : �
 broken_reads r item kind next Good Form Wrong reads again = record {
   found = λ y e. came_by (or_broken r (at_kind kind item.place)) next y e (λ x k. (reads x (unbroken r (at_kind kind item.place) x k)).1.found y);
   tells = broken_tells r item kind next Form Wrong (λ x k. ((reads x k).0, (reads x k).1.tells)) again;
-}
-
-pub value_reads : {A X : Type 0} (o : Option X) (item : ItemView) (kind : ℕ) (next : X → Result A Fault) (Good : A → Type 0) (Form : ItemView → Type 0)
-    (Wrong : ItemView → Fault → Type 0) → ((x : X) → o ≡ Some x → Form item × Reads (next x) Good (Wrong item)) → (Form item → (x : X) × (o ≡ Some x))
-    → Reads (or_fault o (at_kind kind item.place) >>= next) Good (Unless Form kind Wrong item)
-value_reads o item kind next Good Form Wrong reads again = record {
-  found = λ y e. came_by (or_fault o (at_kind kind item.place)) next y e (λ x k. (reads x (there o (at_kind kind item.place) x k)).1.found y);
-  tells = value_tells o item kind next Form Wrong (λ x k. ((reads x k).0, (reads x k).1.tells)) again;
 }
 
 -- by a test that it has to pass

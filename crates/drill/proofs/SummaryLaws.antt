@@ -24,9 +24,6 @@ record Alike (one other : Outcome) : Type 0 where
   pass : passes one ≡ passes other
   code : (code : ℕ) → as_refused code one ≡ as_refused code other
 
-abbrev Judged : World → Settings → Entry → Outcome → Type 0
-Judged world settings call outcome = IsJudged world (call_in settings call) outcome
-
 refused_alike : (one other : Refusal) → one ≡ other → Alike (Refused one) (Refused other)
 refused_alike one other e = record { pass = refl; code = λ code. ap (λ (r : Refusal). as_refused code (Refused r)) e }
 

@@ -46,18 +46,6 @@ left_known v two known = record {
   within = omega (arith, known.within);
 }
 
-pub right_known : (v : View) → 2 ≤ v.share → KnownOf v → KnownOf (right_part v)
-right_known v two known = record {
-  words = known.words;
-  sound = known.sound;
-  marks = λ e none. absurd none;
-  stands = λ e none. absurd none;
-  once = λ place. omega arith;
-  all = λ full. absurd (omega (arith, known.within));
-  above = omega arith;
-  within = omega (arith, known.within);
-}
-
 -- a set is among them under the level and the slot that it has, with the present word
 set_moved : (size : ℕ) (words : List ℕ) (level slot : ℕ) (e : SetWord) (sets : List SetWord) → word_at size words e.level e.slot ≡ e.word → e.level ≡ level → e.slot ≡ slot → In e sets
     → In (set_of level slot (word_at size words level slot) e.ticket) sets

@@ -38,9 +38,6 @@ trail_right sets more seen further ps (suc level) parent trail = (trail.0, trail
 
 -- ---- one level of a claim
 
-pub passes_none : (size level code : ℕ) (h : Holder) → Passes size level code 0 h h
-passes_none size level code h = record { seen = []; gained = refl; own = λ e nothing. absurd nothing; passed = λ n less. absurd (omega arith); steps = refl }
-
 pub ready_of : (size near level code tries slot : ℕ) (ticket : List ℕ) (before now : Holder) → near ≡ size → Begins ticket level code before → Passes size level code tries before now → tries < size
     → slot ≡ turn near code tries → Ready size ticket level slot code now
 ready_of size near level code tries slot ticket before now near_is begins passes few here =

@@ -1,5 +1,5 @@
 -- Lines of a report, one after another.
-use Rattle.std.proofs.Common.{◌≡◌, ℕ, suc, ◌+◌, ◌<◌, ◌≤◌, List, [], ◌∷◌, ◌++◌, length, get_or, drop, refl, sym, ◌∙◌, ap, arith, append-nil, append_assoc}
+use Rattle.std.proofs.Common.{◌≡◌, ℕ, suc, ◌+◌, ◌<◌, ◌≤◌, List, [], ◌∷◌, ◌++◌, length, get_or, drop, sym, ◌∙◌, ap, arith, append-nil, append_assoc}
 use Rattle.std.proofs.lemmas.List.{drop_all, drop_more}
 use Rattle.verify_service.specs.Report.{report, report_text}
 use Rattle.verify_service.specs.declared.outcome.Outcome.{Outcome}
@@ -14,9 +14,6 @@ report_append number (x ∷ xs) ys =
     let e : suc number + length xs ≡ number + suc (length xs) = omega arith in
     ap (λ t. report_text number x ++ t) (report_append (suc number) xs ys ∙ ap (λ n. report (suc number) xs ++ report n ys) e)
     ∙ sym (append_assoc (report_text number x) (report (suc number) xs) (report (number + suc (length xs)) ys))
-
-pub lines_none : (first : ℕ) (outcomes : List Outcome) → LinesSoFar first outcomes 0 [] first
-lines_none first outcomes = refl
 
 -- one line more
 pub line_more : (first place number : ℕ) (outcomes : List Outcome) (before after line : List ℕ) (outcome : Outcome) → LinesSoFar first outcomes place before number → place < length outcomes

@@ -53,12 +53,6 @@ point_as P Q [] (o ∷ os) f p = absurd p
 point_as P Q (c ∷ cs) [] f p = absurd p
 point_as P Q (c ∷ cs) (o ∷ os) f p = (f c o p.0, point_as P Q cs os f p.1)
 
-pub each_as : (P Q : Entry → Outcome → Type 0) (rounds : List Round) → ((call : Entry) (outcome : Outcome) → P call outcome → Q call outcome) → InEach P rounds → InEach Q rounds
-each_as P Q [] f a = tt
-each_as P Q (r ∷ rs) f a = (point_as P Q r.calls r.outcomes f a.0, each_as P Q rs f a.1)
-
--- ---- valid calls
-
 -- ---- valid calls
 
 pub and_assoc : (a b c : Bool) → (a && (b && c)) ≡ ((a && b) && c)

@@ -33,10 +33,6 @@ pub counted : (passed : Passed) (calls : List Entry) → (after_all passed calls
 counted passed [] = omega arith
 counted passed (x ∷ xs) = omega (arith, counted (after passed x) xs)
 
-pub numbered : (passed : Passed) (calls : List Entry) → AreCalls passed calls → (after_all passed calls).number ≡ passed.number + length calls
-numbered passed [] a = omega arith
-numbered passed (x ∷ xs) a = omega (arith, numbered (after passed x) xs a.1, a.0.numbered)
-
 pub no_calls : (calls : List Entry) → length calls ≡ 0 → calls ≡ []
 no_calls [] e = refl
 no_calls (call ∷ others) e = absurd (omega (arith, e))

@@ -38,13 +38,6 @@ has_claimed size ticket h next (Full n) claimed =
     subst (λ (g : Holder). SeatHas size ticket g (Full n)) (sym claimed.gained)
     (full.0, full.1, full.2, claimed.ticket_is, full_left size ticket claimed.sets h.sets claimed.seen h.seen full.0 full.3)
 
-pub worked_none : (size : ℕ) (tickets : List (List ℕ)) (count worker : ℕ) (h : Holder) (claims : List LiveClaim) → h.sets ≡ [] → Worked size tickets count worker 0 h claims
-worked_none size tickets count worker h claims fresh = record {
-  each = λ n less. absurd (omega arith);
-  twice = λ m n less. absurd (omega arith);
-  sets = λ e there. absurd (subst (In e) fresh there);
-}
-
 module _ (size : ℕ) (tickets : List (List ℕ)) (count worker upto : ℕ) (h : Holder) (claims : List LiveClaim) (worked : Worked size tickets count worker upto h claims) where
   before : (n : ℕ) → n < upto + 1 → n ≢ upto → n < upto
   before n less apart = omega arith

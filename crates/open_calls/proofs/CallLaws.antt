@@ -1,5 +1,5 @@
 -- A call that was opened, by how it was screened.
-use Rattle.std.proofs.Common.{◌≡◌, List, [], length, Option, Result, Ok, Err, sym, ◌∙◌, ap, subst}
+use Rattle.std.proofs.Common.{◌≡◌, List, length, Option, Result, Ok, sym, ◌∙◌, ap, subst}
 use Rattle.verify_rules.specs.Call.{in_call_order}
 use Rattle.verify_rules.specs.Screened.{ScreenedView}
 use Rattle.verify_rules.specs.declared.refusal.Refusal.{Refusal}
@@ -8,15 +8,9 @@ use Rattle.open_calls.specs.OpenCalls.{CallView, IsEarly, call_in, judged_in, un
 
 -- ---- what is known of how it was screened
 
-pub early_as : (call : CallView) (screened kept : Result ScreenedView Refusal) → IsEarly (call_in call) kept → kept ≡ screened → IsEarly (call_in call) screened
-early_as call screened kept early is = subst (IsEarly (call_in call)) is early
-
 pub judged_screened : (call : CallView) (screened : ScreenedView) → IsEarly (call_in call) (Ok screened) → judged_in call ≡ screened.readings
 judged_screened call screened early =
     ap (λ (e : Option Refusal). unless_refused e (in_call_order (call_in call))) early.0 ∙ sym (readings_are (call_in call) screened early.1)
-
-pub judged_refused : (call : CallView) (refused : Refusal) → IsEarly (call_in call) (Err refused) → judged_in call ≡ []
-judged_refused call refused early = ap (λ (e : Option Refusal). unless_refused e (in_call_order (call_in call))) early
 
 -- ---- there is one chain for each PASSporT
 

@@ -14,7 +14,6 @@ use Rattle.delegation.specs.Coverage.{Table}
 use Rattle.call_judging.proofs.AgreeLaws.{agree_left, agree_right}
 use Rattle.call_judging.specs.AlwaysYes.{always_yes}
 use Rattle.call_judging.specs.CallQuestions.{own_question, own_questions, under_leaf}
-use Rattle.call_judging.specs.Judging.{IsKnownBy}
 use Rattle.verify_rules.specs.Call.{Call, Reading, in_call_order}
 use Rattle.verify_rules.specs.Causes.{IsCaused}
 use Rattle.verify_rules.specs.Late.{asking, at_asking, first_event, first_rule, is_signed_by, rules_after, rules_before, unless_signed}
@@ -74,12 +73,6 @@ verdict_in says table call screened states moment faults faults_now verdict is n
     let c = subst (λ n. IsVerdict says table call.moment (in_call_order call) states n faults_now verdict) none b in
     subst (λ n. IsVerdict says table call.moment (in_call_order call) states 0 n verdict) none_now c
 
-pub found_passed : (says : Says) (table : Table) (call : Call) (states : List State) (verdict : Verdict) (ticket : List ℕ) (last : ℕ) → first early_rules call ≡ None → verdict ≡ verdicts.Passed
-    → IsVerdict says table call.moment (in_call_order call) states 0 0 verdict → IsKnownBy call ticket last
-    → (first early_rules call ≡ None) × IsVerdict says table call.moment (in_call_order call) states 0 0 verdicts.Passed × IsKnownBy call ticket last
-found_passed says table call states verdict ticket last early is h known =
-    (early, subst (λ (v : Verdict). IsVerdict says table call.moment (in_call_order call) states 0 0 v) is h, known)
-
 -- ---- whether the PASSporTs' own signatures are asked for
 
 pub asks_is : (table : Table) (states : List State) (call : Call) (found : Found) → first early_rules call ≡ None → IsFoundOver always_yes table states call found
@@ -103,11 +96,6 @@ pub own_some : (table : Table) (states : List State) (call : Call) (found : Foun
 own_some table states call found asked readings asks early over test is_asked in_order is =
     is ∙ ap (λ (r : List Reading). own_questions r states) in_order
     ∙ sym (ap (λ t. cond t (own_questions (in_call_order call) states) []) (sym (asks_is table states call found early over) ∙ sym test ∙ is_asked))
-
-pub own_early : (table : Table) (states : List State) (call : Call) (refused : Refusal) (asked : List QuestionView) → first early_rules call ≡ Some refused → asked ≡ [] → asked ≡ own_asked table states call
-own_early table states call refused asked early none =
-    none ∙ sym (ap (λ (e : Option Refusal). cond (is_none e && is_late (option_map verdict_of (first_event always_yes table call.moment (in_call_order call) states)))
-    (own_questions (in_call_order call) states) []) early)
 
 -- ---- two providers that agree on what is asked
 

@@ -1,15 +1,15 @@
 -- What comes of a call over chains that were given is what comes of it in a world that leads to them.
-use Rattle.std.proofs.Common.{◌≡◌, ◌≢◌, ℕ, nat_lt, Bool, true, false, cond, ◌&&◌, List, [], ◌∷◌, length, is_none, Option, Some, None, inl, inr, refl, sym, ◌∙◌, ap, subst}
+use Rattle.std.proofs.Common.{◌≡◌, ◌≢◌, ℕ, nat_lt, Bool, true, false, cond, List, [], ◌∷◌, length, Option, Some, None, inl, inr, refl, sym, ◌∙◌, ap, subst}
 use Rattle.cert_store.specs.Asking.{FailedAt, SoFar}
-use Rattle.cert_store.specs.Judged.{HasAuthority, JudgedAs, JudgedView, judged_of}
-use Rattle.cert_store.specs.Questions.{AgreeOn, questions_of}
+use Rattle.cert_store.specs.Judged.{JudgedAs, JudgedView, judged_of}
+use Rattle.cert_store.specs.Questions.{AgreeOn}
 use Rattle.cert_store.specs.Rules.{QuestionView, Says}
 use Rattle.cert_store.specs.declared.judged.Asked.{Asked}
 use Rattle.cert_store.specs.declared.judged.Asked.TheVariants.{NotAsked, Yes, No, Failed}
 use Rattle.delegation.specs.Coverage.{Table}
 use Rattle.x509_profile.specs.View.{CertView}
 use Rattle.call_judging.specs.AlwaysYes.{always_yes}
-use Rattle.call_judging.specs.CallQuestions.{chain_questions, judged_questions}
+use Rattle.call_judging.proofs.AgreeLaws.{SameJudged, size_agree}
 use Rattle.verify_rules.proofs.WorldVerdict.{first_early, verdict_right}
 use Rattle.verify_rules.specs.Call.{Call, Reading, in_call_order}
 use Rattle.verify_rules.specs.Rules.{early_rules, first}
@@ -29,28 +29,9 @@ use Rattle.open_calls.specs.Worlds.{WorldView}
 use Rattle.open_calls.specs.declared.found.Found.{Found}
 use Rattle.open_calls.specs.declared.found.Found.TheVariants.{Refused, Passes}
 
--- the laws of the rules on a chain: that all is answered, and what they say by two providers
+-- the law of the rules on a chain that all is answered
 abbrev pub Answered : Type 0
 Answered = (anchors : List CertView) (table : Table) (says : Says) (bytes : List ℕ) (part : ℕ) → (judged_of anchors table says bytes).asked ≢ Failed part
-
-abbrev pub SameJudged : Type 0
-SameJudged = (anchors : List CertView) (table : Table) (says other : Says) (bytes : List ℕ)
-    → (HasAuthority (judged_of anchors table says bytes) → AgreeOn says other (questions_of (judged_of anchors table says bytes)))
-    → judged_of anchors table other bytes ≡ judged_of anchors table says bytes
-
--- ---- a chain by two providers that agree on its questions
-
-authority_by : (judged : JudgedView) (says other : Says) → AgreeOn says other (judged_questions judged) → HasAuthority judged → AgreeOn says other (questions_of judged)
-authority_by judged says other agree has =
-    let test : (is_none judged.profile && (is_none judged.shape && is_none judged.authority)) ≡ true = rw (has.path.profile, has.path.shape, has.authority) refl in
-    subst (λ t. AgreeOn says other (cond t (questions_of judged) [])) test agree
-
-size_agree : SameJudged → (anchors : List CertView) (table : Table) (says other : Says) (bytes : List ℕ) (t : Bool)
-    → AgreeOn says other (chain_questions (cond t long (have (judged_of anchors table says bytes))))
-    → cond t long (have (judged_of anchors table other bytes)) ≡ cond t long (have (judged_of anchors table says bytes))
-size_agree law anchors table says other bytes true agree = refl
-size_agree law anchors table says other bytes false agree =
-    ap have (law anchors table says other bytes (authority_by (judged_of anchors table says bytes) says other agree))
 
 -- what is known of it is what there is to know by a provider that says what the host said
 given_is : SameJudged → (world : WorldView) (says : Says) (bytes good : List ℕ) → SaysAsTold says (chain_asked world bytes) good → state_given world bytes good ≡ state_by world says bytes

@@ -1,5 +1,5 @@
 -- What is signed of a message, from what the authentication service says.
-use Rattle.std.proofs.Common.{◌≡◌, ℕ, Bool, true, false, List, Option, Some, None, Result, Ok, Err, ◌==◌, length, if◌then◌else◌, IfErr, inl, inr, refl, sym, ◌∙◌, subst, arith}
+use Rattle.std.proofs.Common.{◌≡◌, ℕ, Bool, true, false, List, Option, Some, None, Result, Ok, Err, ◌==◌, length, IfErr, inl, inr, refl, sym, ◌∙◌, subst, arith, if◌then◌else◌}
 use Rattle.std.proofs.lemmas.Bool.Decides.{nat_tests}
 use Rattle.auth_service.specs.Answer.{is_provider, names_provider}
 use Rattle.auth_service.specs.Order.{HolderView, OrderView}
@@ -7,7 +7,7 @@ use Rattle.auth_service.specs.Promise.{IsPromised}
 use Rattle.auth_service.specs.declared.fault.SignFault.{SignFault}
 use Rattle.auth_service.specs.declared.fault.SignFault.TheVariants as refusals
 use Rattle.stir_outside.specs.Count.{Rose}
-use Rattle.open_calls.specs.Key.{HasNoHolder, IsHolderOf, KeyView}
+use Rattle.open_calls.specs.Key.{IsHolderOf, KeyView}
 use Rattle.open_calls.specs.Order.{Given, IsNoOrder, IsOrderOf}
 use Rattle.open_calls.specs.Signing.{GivesMessage, IsSignedBy, IsUnread, IsUnsignedBy, IsUnsignedFor, IsUnsignedWith, signature_in, signs_of, why_of}
 use Rattle.open_calls.specs.declared.unsigned.Unread.TheVariants as unread
@@ -59,9 +59,6 @@ unsigned_for key given message order holder made (unsigned.Withheld number) held
 }
 unsigned_for key given message order holder made (unsigned.Digest digest) held ordered is =
     record { order = order; holder = holder; read = record { holder_is = held; order_is = ordered }; gives = is }
-
-pub no_holder : (key : KeyView) (given : Given) → HasNoHolder key → IsUnread key given unread.Certificate
-no_holder key given none = none
 
 pub bad_order : (key : KeyView) (given : Given) (holder : HolderView) → IsHolderOf key holder → IsNoOrder given key.local → IsUnread key given unread.Order
 bad_order key given holder held none = record { holder = holder; holder_is = held; none = none }

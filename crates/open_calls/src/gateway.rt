@@ -47,10 +47,8 @@ pub fn retargeted(
     retargeting: &Retargeting<'_>,
     signature: &[u8],
 ) -> Result<Vec<u8>, Unmoved>
-    ensures moved { IfOk result
-        (λ out. IsMovedBy (given_of retargeting.now) (Some signature.now) out.items) }
-    ensures unmoved { IfErr result
-        (IsUnmovedWith (given_of retargeting.now) signature.now) }
+    ensures moved { IfOk result (λ out. IsMovedBy (given_of retargeting.now) (Some signature.now) out.items) }
+    ensures unmoved { IfErr result (IsUnmovedWith (given_of retargeting.now) signature.now) }
 {
     let Some(made) = signature_in(signature) else {
         return Err(Unmoved::Input(Unread::Signature));
@@ -69,8 +67,7 @@ fn move_by(
     retargeting: &Retargeting<'_>,
     made: Option<[u8; 64]>,
 ) -> Result<Vec<u8>, Unmoved>
-    ensures moved { IfOk result
-        (λ out. IsMovedBy (given_of retargeting.now) made out.items) }
+    ensures moved { IfOk result (λ out. IsMovedBy (given_of retargeting.now) made out.items) }
     ensures unmoved { IfErr result (IsUnmovedFor (given_of retargeting.now) made) }
 {
     let Retargeting {

@@ -32,14 +32,6 @@ text_is = is_utf8-from_IsUtf8
 pub text_not : (text : List ℕ) → (IsUtf8 text → ⊥) → is_utf8 text ≡ false
 text_not text no_text = false_from_ne_true _ (λ is. no_text (IsUtf8-from_is_utf8 text is))
 
--- an identifier has 36 bytes
-pub origid_size : (text : List ℕ) → is_origid text ≡ true → length text ≡ 36
-unfolding is_origid
-origid_size text h =
-    let k = and_parts ((length text == 36) && is_utf8 text) (is_some (parsed text)) h in
-    let l = and_parts (length text == 36) (is_utf8 text) k.0 in
-    grind (arith, nat_tests, l.0)
-
 -- the test says what the relation says
 pub origid_tells : (text : List ℕ) → is_origid text ≡ true → IsOrigid text
 unfolding is_origid

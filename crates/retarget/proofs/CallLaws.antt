@@ -1,6 +1,6 @@
 -- What is known of a call that was screened.
 use Rattle.std.proofs.Common.{◌≡◌, ℕ, ◌≤◌, Bool, true, false, List, [], ◌∷◌, length, map, take, drop, Option, Some, None, Result, Ok, Err, refl, sym, ◌∙◌, ap, subst, arith}
-use Rattle.std.specs.Prelude.{◌↔◌, if◌then◌else◌, slice_index_or}
+use Rattle.std.specs.Prelude.{◌↔◌, slice_index_or, if◌then◌else◌}
 use Rattle.std.specs.List.{slice_get}
 use Rattle.std.specs.Option.{option_or}
 use Rattle.std.proofs.lemmas.List.{length-map}
@@ -15,7 +15,7 @@ use Rattle.passport_claims.specs.OrderReading.{order_of}
 use Rattle.passport_claims.specs.Passport.{ClaimsView, is_text}
 use Rattle.passport_claims.specs.declared.order.ChainFault.{ChainFault}
 use Rattle.verify_rules.specs.Call.{Call, Reading, call_of, called_by, facts, facts_of, in_call_order, in_message, in_turn, or_none, passport_in, passports_of, read_call, turn_of}
-use Rattle.verify_rules.specs.Rules.{HoldAll, Rule, each, early_rules, first, no_invite, no_order, or_later, other_calling, place}
+use Rattle.verify_rules.specs.Rules.{HoldAll, Rule, each, early_rules, first, no_order, or_later, other_calling, place}
 use Rattle.verify_rules.specs.Screened.{ScreenedView, screened_by, screened_of}
 use Rattle.verify_rules.specs.declared.refusal.Place.{Place}
 use Rattle.verify_rules.specs.declared.refusal.Refusal.{Refusal}
@@ -59,13 +59,6 @@ stands bytes moment local screened s message e = record {
   hold = subst (λ (m : Result MessageView FormFault). HoldAll early_rules (call_with s.settings moment m)) e (unbroken early_rules (call_of s.settings moment bytes) s.is.0);
   are = subst (λ (m : Result MessageView FormFault). screened.readings ≡ in_call_order (call_with s.settings moment m)) e (readings_are (call_of s.settings moment bytes) screened s.is.1);
 }
-
--- bytes that were screened are a message
-pub readable : (bytes : List ℕ) (moment : ℕ) (local : LocalView) (screened : ScreenedView) → IsScreenedFor bytes moment local screened → (message : MessageView) × (read bytes ≡ Ok message)
-readable bytes moment local screened s = of (read bytes) refl (unbroken early_rules (call_of s.settings moment bytes) s.is.0).0 where
-  of : (r : Result MessageView FormFault) → read bytes ≡ r → no_invite r ≡ None → (message : MessageView) × (read bytes ≡ Ok message)
-  of (Ok message) e h = (message, e)
-  of (Err fault) e h = absurd cc
 
 invite_by : (b : Bool) → (if b then None else Some (place 0 0)) ≡ None → b ≡ true
 invite_by true e = refl

@@ -3,7 +3,7 @@ use Rattle.std.proofs.Common.{◌≡◌, ℕ, ◌≤◌, ◌<◌, Bool, true, fa
 use Rattle.std.proofs.lemmas.Bool.{and_parts}
 use Rattle.std.proofs.lemmas.Bool.Decides.{nat_tests}
 use Rattle.std.proofs.lemmas.List.{take-append-drop}
-use Rattle.lists.specs.Given.{Gives, IsFaultOf}
+use Rattle.lists.specs.Given.{IsFaultOf}
 use Rattle.text_grammar.specs.Moment.{last_second}
 use Rattle.text_grammar.specs.Uri.{is_uri}
 use Rattle.sip_message.specs.Added.{head_end, sized_or_fault, with_line, written_field}
@@ -14,13 +14,13 @@ use Rattle.sip_message.specs.Seen.{fault_seen}
 use Rattle.sip_message.specs.declared.fault.FormFault.{FormFault}
 use Rattle.sip_message.specs.declared.fault.MessageFault.{MessageFault}
 use Rattle.sip_message.specs.declared.fault.MessageFault.TheVariants as message_faults
-use Rattle.auth_service.specs.Answer.{decided as signer_decided, is_provider as is_signer_provider}
+use Rattle.auth_service.specs.Answer.{is_provider as is_signer_provider}
 use Rattle.auth_service.specs.Causes.{IsCaused, IsWithheld}
 use Rattle.auth_service.specs.Order.{HolderView, OrderView, is_order}
 use Rattle.auth_service.specs.Signed.{signed}
 use Rattle.auth_service.specs.declared.fault.SignFault.{SignFault}
 use Rattle.auth_service.specs.declared.fault.SignFault.TheVariants as signing
-use Rattle.retarget.specs.Answer.{decided, hop_fault, is_provider}
+use Rattle.retarget.specs.Answer.{hop_fault, is_provider}
 use Rattle.retarget.specs.Hop.{HopView, diversion, is_hop}
 use Rattle.retarget.specs.Written.{CannotSign, Why, as_hop, diverted, refused, too_long, withheld, written_to}
 use Rattle.retarget.specs.declared.fault.HopFault.{HopFault}
@@ -108,22 +108,6 @@ pub exact_ok : (bytes earlier moved out : List ℕ) (hop : HopView) (holder : Ho
     → signed moved order (Some holder) signs ≡ Ok out → written_to bytes earlier hop holder signs ≡ Ok out
 exact_ok bytes earlier moved out hop holder signs order e o h =
     written_is bytes earlier moved hop holder signs e ∙ ap as_hop (ap (λ x. signed moved x (Some holder) signs) (sym o) ∙ h)
-
-fault_as : (one : SignFault) (given : Result (List ℕ) SignFault) → Gives {X = List ℕ} signer_decided (λ x. x) (Err one) given → Gives {X = List ℕ} decided (λ x. x) (Err (hop_fault one)) (as_hop given)
-fault_as signing.Form given h = ap as_hop h
-fault_as signing.NoNumber given h = ap as_hop h
-fault_as signing.Authority given h = ap as_hop h
-fault_as (signing.NoSignature digest) given h = ap as_hop h
-fault_as signing.Provider given h = tt
-fault_as signing.Memory given h = tt
-
-pub exact_fault : (bytes earlier moved : List ℕ) (hop : HopView) (holder : HolderView) (signs : Signs) (order : OrderView) (one : SignFault) → targeted bytes hop.target ≡ Ok moved
-    → order ≡ diversion hop earlier → Gives {X = List ℕ} signer_decided (λ x. x) (Err one) (signed moved order (Some holder) signs)
-    → Gives {X = List ℕ} decided (λ x. x) (Err (hop_fault one)) (written_to bytes earlier hop holder signs)
-exact_fault bytes earlier moved hop holder signs order one e o h =
-    subst (λ r. Gives {X = List ℕ} decided (λ x. x) (Err (hop_fault one)) r) (sym (written_is bytes earlier moved hop holder signs e))
-    (fault_as one (signed moved (diversion hop earlier) (Some holder) signs)
-    (subst (λ x. Gives {X = List ℕ} signer_decided (λ y. y) (Err one) (signed moved x (Some holder) signs)) o h))
 
 unnamed_hop : (one : SignFault) → is_signer_provider one ≡ false → is_provider (hop_fault one) ≡ false
 unnamed_hop signing.Form h = refl

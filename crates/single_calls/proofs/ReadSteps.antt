@@ -1,11 +1,9 @@
 -- One chain more of those that are read and asked for.
-use Rattle.std.proofs.Common.{◌≡◌, ℕ, ◌+◌, ◌<◌, ◌≤◌, Bool, true, false, ◌||◌, List, [], ◌∷◌, ◌++◌, length, take, append_assoc, append-nil, Option, Some, None, refl, sym, ◌∙◌, ap, subst}
+use Rattle.std.proofs.Common.{◌≡◌, ℕ, ◌+◌, ◌<◌, Bool, true, false, ◌||◌, List, [], ◌∷◌, ◌++◌, length, take, append_assoc, append-nil, Option, Some, refl, sym, ◌∙◌, ap, subst}
 use Rattle.std.specs.List.{list_any, slice_get}
 use Rattle.std.specs.Option.{option_map}
 use Rattle.std.proofs.lemmas.List.{length_push}
 use Rattle.std.proofs.lemmas.List.Folds.{list_any-append}
-use Rattle.std.proofs.lemmas.Option.{same_Some}
-use Rattle.cert_store.specs.ChainMap.{listed}
 use Rattle.cert_store.specs.Rules.{QuestionView, Says}
 use Rattle.stir_outside.specs.Files.{Files}
 use Rattle.passport_claims.specs.Passport.{ClaimsView}
@@ -13,13 +11,10 @@ use Rattle.verify_rules.specs.Call.{Reading, passport_in}
 use Rattle.verify_rules.specs.States.{State}
 use Rattle.call_judging.specs.Chains.{AreRightWhere, IsRightWhere, is_unread}
 use Rattle.cert_store.specs.declared.world.World.{World as Materials}
-use Rattle.stir_outside.proofs.CountLaws.{then_rose}
 use Rattle.call_judging.specs.AlwaysYes.{always_yes}
 use Rattle.call_judging.specs.CallQuestions.{chain_questions, chains_questions}
-use Rattle.single_calls.specs.Reading.{AreAsked, Lines, Stopped, StopsFor}
+use Rattle.single_calls.specs.Reading.{AreAsked, Lines}
 use Rattle.single_calls.specs.Written.{Writes}
-use Rattle.single_calls.specs.declared.reading.ChainError.{ChainError}
-use Rattle.single_calls.specs.declared.reading.ChainError.TheVariants.{Unread, Memory}
 use Rattle.single_calls.proofs.WriteLaws.{writes_both}
 
 -- the law that one chain more is right
@@ -55,30 +50,3 @@ one_more told told_now materials readings before mid now states pushed i passpor
     })
 
 -- ---- a stop
-
--- the PASSporT at an index
-record At (readings : List Reading) (i : ℕ) (passport : ClaimsView) : Type 0 where
-  one : Reading
-  is : slice_get readings i ≡ Some one
-  says : one.passport ≡ passport
-
-at_by : (readings : List Reading) (i : ℕ) (passport : ClaimsView) (found : Option Reading) → slice_get readings i ≡ found → option_map passport_in found ≡ Some passport → At readings i passport
-at_by readings i passport None here is = absurd (cc)
-at_by readings i passport (Some one) here is = record { one = one; is = here; says = same_Some one.passport passport is }
-
-pub stopped_at : (told : Option Files) (materials : Materials) (readings : List Reading) (before now : Lines) (states : List State) (i : ℕ) (passport : ClaimsView) (x5u : List ℕ)
-    (faults mid faults_now : ℕ) (stop : ChainError) → length states ≡ i → option_map passport_in (slice_get readings i) ≡ Some passport → x5u ≡ passport.x5u
-    → AreAsked told materials readings before now states → faults ≤ mid → StopsFor materials x5u mid faults_now stop
-    → Stopped told materials readings before now faults faults_now stop
-stopped_at told materials readings before now states i passport x5u faults mid faults_now (Unread name) counted is text asked stay (named, rose) =
-    let at : At readings i passport = at_by readings i passport (slice_get readings i) refl is in (
-      record {
-        states = states;
-        asked = asked;
-        here = at.one;
-        is = ap (slice_get readings) counted ∙ at.is;
-        named = ap (listed materials.chains) (ap (λ (p : ClaimsView). p.x5u) at.says ∙ sym text) ∙ named;
-      },
-      then_rose faults mid faults_now stay rose,
-    )
-stopped_at told materials readings before now states i passport x5u faults mid faults_now Memory counted is text asked stay stops = tt

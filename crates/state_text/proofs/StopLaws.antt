@@ -199,9 +199,6 @@ pub next_stop : (name : List ℕ) (most number : ℕ) (lines : List (List ℕ)) 
 next_stop name most number [] fault h = same_number number fault h
 next_stop name most number (line ∷ others) fault h = or_stop number others (number_on name most line) fault h
 
-empty_entries : AreEntries 0 None []
-empty_entries = record { each = tt; rise = tt }
-
 without_entries : (window call moment : ℕ) → window ≤ most_window → moment ≤ last_second → IsState (record { window = window; call = call; moment = moment; kept = [] })
 without_entries window call moment w m = record { window = w; moment = m; entries = record { each = tt; rise = tt } }
 

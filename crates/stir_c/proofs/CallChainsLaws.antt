@@ -11,14 +11,6 @@ pub none_seen : {X Y : Type 0} (f : X → Y) (n : ℕ) → map (option_map f) (r
 none_seen f zero = refl
 none_seen f (suc n) = ap (λ ys. None ∷ ys) (none_seen f n)
 
--- one more
-more : {X : Type 0} (n : ℕ) (x : X) → replicate n x ++ x ∷ [] ≡ replicate (suc n) x
-more zero x = refl
-more (suc n) x = ap (λ ys. x ∷ ys) (more n x)
-
-pub none_more : {X : Type 0} (items now : List X) (n : ℕ) (x : X) → items ≡ replicate n x → now ≡ items ++ x ∷ [] → now ≡ replicate (n + 1) x
-none_more items now n x so pushed = let next : replicate (suc n) x ≡ replicate (n + 1) x = let one : suc n ≡ n + 1 = omega arith in ap (λ (m : ℕ). replicate m x) one in pushed ∙ ap (λ ys. ys ++ x ∷ []) so ∙ more n x ∙ next
-
 pub none_given : {X Y : Type 0} (f : X → Y) (items : List (Option X)) (count : ℕ) → items ≡ replicate count None → map (option_map f) items ≡ replicate count None
 none_given f items count so = ap (map (option_map f)) so ∙ none_seen f count
 

@@ -1,25 +1,18 @@
 -- The parts of the certificates of a chain, found or not.
-use Rattle.std.proofs.Common.{◌≡◌, ℕ, ◌-◌, ◌≤◌, List, Option, Some, None, Result, Ok, Err, refl, sym, ◌∙◌, ap, subst, arith}
+use Rattle.std.proofs.Common.{◌≡◌, ℕ, ◌-◌, ◌≤◌, List, Option, Some, None, sym, ◌∙◌, ap, subst, arith}
 use Rattle.std.proofs.lemmas.Option.{same_Some}
 use Rattle.std.specs.List.{slice_get}
-use Rattle.std.specs.Option.{option_map}
 use Rattle.chain_lines.specs.Parts.{PartIs}
 use Rattle.chain_lines.specs.declared.parts.Part.{Part}
-use Rattle.x509_profile.specs.Chain.{Chain, RefusedCertificate, refused_at}
+use Rattle.x509_profile.specs.Chain.{Chain}
 use Rattle.x509_profile.specs.View.{CertView}
-use Rattle.stir_c.specs.ChainParts.{ChainPartIs, HasCertificate, IsPartOf, ToldFound, ToldPart, part_of}
-use Rattle.stir_c.specs.declared.said.Said.{Said}
-use Rattle.stir_c.specs.declared.writing.Text.{Text}
+use Rattle.stir_c.specs.ChainParts.{ChainPartIs, part_of}
 
 pub no_part : (bytes : List ℕ) (number part : ℕ) → None ≡ part_of part → ChainPartIs bytes number part None
 no_part bytes number part none certificate kind has is = let other : ◌≡◌ {A = Option Part} None (Some kind) = none ∙ is in absurd (cc)
 
 pub no_number : (bytes : List ℕ) (number part : ℕ) → number ≡ 0 → ChainPartIs bytes number part None
 no_number bytes number part zero certificate kind has is = let some = has.some in absurd (omega (arith, some, zero))
-
-pub no_chain : (bytes : List ℕ) (number part n place : ℕ) → ((chain : List CertView) → Chain bytes chain → ◌≡◌ {A = Result (List CertView) RefusedCertificate} (Ok chain) (Err (refused_at n place)))
-    → ChainPartIs bytes number part None
-no_chain bytes number part n place only certificate kind has is = let e = only has.chain has.text in absurd (cc)
 
 pub no_certificate : (bytes : List ℕ) (number part : ℕ) (chain : List CertView) → Chain bytes chain → ((a b : List CertView) → Chain bytes a → Chain bytes b → a ≡ b)
     → None ≡ slice_get chain (number - 1) → ChainPartIs bytes number part None

@@ -9,11 +9,9 @@ use Rattle.delegation.specs.contracts.anchors.Anchors as anchors
 use Rattle.open_calls.specs.contracts.call.OpenCall as call
 use Rattle.open_calls.specs.contracts.chain.OpenChain as chain
 use Rattle.open_calls.specs.contracts.world.OpenWorld as world
-use Rattle.passport_claims.specs.contracts.kind.Attest as attest
 use Rattle.passport_claims.specs.contracts.kind.Kind as kind
 use Rattle.passport_claims.specs.contracts.passport.Passport as passport
 use Rattle.serde_json.proofs.value.Value.TheLaws.TheKnot as knot
-use Rattle.serde_json.specs.contracts.number.Number as json_number
 use Rattle.serde_json.specs.contracts.value.Value as value
 use Rattle.tn_auth_list.specs.contracts.table.CodeTable as table
 use Rattle.tn_values.specs.contracts.numbering.Local as local
@@ -79,9 +77,6 @@ chain_send = search (crosses, status_send, sendable) depth 100 fits 50000
 
 pub chain_sync : IsSync chain.the_row
 chain_sync = search (crosses, status_sync, sendable) depth 100 fits 50000
-
-number_text_send : IsSend json_number.the_row
-number_text_send = search (String-send, crosses, sendable) depth 60 fits 50000
 
 value_send : IsSend value.the_row
 value_send = first_of (search (maps.crosses, crosses, knot.crosses, sendable) depth 60 fits 50000, search (maps.crosses, crosses, knot.crosses_both, sendable) depth 60 fits 50000)

@@ -1,8 +1,5 @@
 -- What is told of a chain of certificates that is shown.
-use Rattle.std.proofs.Common.{◌≡◌, ◌≢◌, ℕ, ◌≤◌, List, Some, Result, Ok, Err, IfErr, IfOk, inl, refl, sym, ◌∙◌, ap, subst, arith}
-use Rattle.x509_profile.specs.Chain.{Chain, GivesChain, RefusedCertificate, refused_at}
-use Rattle.x509_profile.specs.View.{CertView}
-use Rattle.x509_profile.specs.declared.chain.CertChainFault.TheVariants as chains
+use Rattle.std.proofs.Common.{◌≡◌, ◌≢◌, ℕ, ◌≤◌, List, Result, Ok, Err, IfErr, IfOk, sym, ap, subst, arith}
 use Rattle.stir_c.specs.Showing.{IsNoChain, IsShown, IsWhyUnshown, ShownInto, ShowsMore, ToldShown, input_of}
 use Rattle.stir_c.specs.declared.showing.Unshown.{Unshown}
 use Rattle.stir_c.specs.declared.showing.Unshown.TheVariants as unshown
@@ -10,12 +7,6 @@ use Rattle.stir_c.specs.declared.said.Said.{Said}
 use Rattle.stir_c.specs.declared.writing.Text.{Text}
 use Rattle.stir_c.proofs.TextLaws.{high_unwritten, no_middle, text_into, text_kinds, text_more}
 use Rattle.stir_c.proofs.ToldLaws.{faulty_kind, input_kind}
-
-pub no_chain : (bytes : List ℕ) (number place : ℕ)
-    → ((certificates : List CertView) → Chain bytes certificates → GivesChain {X = List CertView} (λ x. x) (Err (chains.At number place)) (Ok certificates))
-    → IsNoChain bytes
-no_chain bytes number place only =
-    (λ certificates chain. let other : ◌≡◌ {A = Result (List CertView) RefusedCertificate} (Ok certificates) (Err (refused_at number place)) = only certificates chain in cc)
 
 -- ---- what is told
 

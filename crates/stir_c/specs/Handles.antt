@@ -1,8 +1,7 @@
 -- What the handles are open on, by the bytes that were handed in when they were opened.
-use Rattle.std.specs.Prelude.{◌≡◌, ℕ, List, Option, None, IsSomeAnd, slice_set}
+use Rattle.std.specs.Prelude.{ℕ, List, Option, IsSomeAnd, slice_set}
 use Rattle.std.specs.Option.{option_and_then}
-use Rattle.open_calls.specs.OpenCalls.{CallView}
-use Rattle.open_calls.specs.OpenChains.{AreGiven, ChainView, GivenChain, IsChainOf, with_confirmed}
+use Rattle.open_calls.specs.OpenChains.{ChainView, IsChainOf, with_confirmed}
 use Rattle.open_calls.specs.Worlds.{GivenWorld, IsWorldOf, WorldView}
 use Rattle.stir_c.specs.Holding.{HeldCallView, HeldChainView}
 use Rattle.stir_c.specs.Owned.{owned_call, owned_chain, owned_world}
@@ -34,17 +33,6 @@ pub record IsChainUnder (given : GivenWorld) (bytes good : List ℕ) (held : Hel
 
 abbrev pub IsChainOn : GivenWorld → List ℕ → List ℕ → ChainHandle → Type 0
 IsChainOn given bytes good h = IsSomeAnd (chain_held h) (IsChainUnder given bytes good)
-
--- the call of this message, which came at this moment, opened under such a world; and these chains were handed in for
--- its PASSporTs
-pub record IsCallUnder (given : GivenWorld) (moment : ℕ) (message : List ℕ) (files : List (Option GivenChain))
-    (held : HeldCallView) : Type 0 where
-  pub under : IsWorldOf given held.world
-  pub call_is : held.call ≡ record { settings = held.world.settings; moment = moment; message = message }
-  pub chains_are : AreGiven held.world files held.chains
-
-abbrev pub IsCallOn : GivenWorld → ℕ → List ℕ → List (Option GivenChain) → CallHandle → Type 0
-IsCallOn given moment message files h = IsSomeAnd (call_held h) (IsCallUnder given moment message files)
 
 -- ---- what changes
 

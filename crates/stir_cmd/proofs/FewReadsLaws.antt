@@ -14,12 +14,12 @@ use Rattle.stir_files.specs.Materials.{MaterialsOf}
 use Rattle.stir_files.specs.declared.going.GoingMaterials.{GoingMaterials}
 use Rattle.stir_files.specs.declared.materials.Materials.{Materials}
 use Rattle.stir_outside.specs.Files.{Files}
-use Rattle.stir_words.specs.Order.{OrderView, VerifyingView}
+use Rattle.stir_words.specs.Order.{VerifyingView}
 use Rattle.verify_rules.specs.declared.settings.Settings.{Settings}
 use Rattle.verify_service.specs.Handing.{IsRestored}
 use Rattle.verify_service.specs.Service.{IsNew, ServiceView}
 use Rattle.stir_cmd.specs.Calls.{settings_by}
-use Rattle.stir_cmd.specs.FewReads.{FewReads, FewReadsFrom, ReadsFewFrom, ReadsLog}
+use Rattle.stir_cmd.specs.FewReads.{FewReadsFrom, ReadsFewFrom, ReadsLog}
 use Rattle.stir_cmd.specs.Outside.{IfTold, Outside}
 use Rattle.stir_cmd.specs.Verifying.{start_at}
 use Rattle.stir_cmd.proofs.GoingSteps.{same_start}
@@ -147,7 +147,3 @@ few_is_alone verifying state before now is few = subst (λ (x : Option (List ℕ
 pub few_is_on : (verifying : VerifyingView) (state : Option (List ℕ)) (name : List ℕ) (before now : Outside) → state ≡ Some name → FewReadsFrom verifying (Some name) before now
     → FewReadsFrom verifying state before now
 few_is_on verifying state name before now is few = subst (λ (x : Option (List ℕ)). FewReadsFrom verifying x before now) (sym is) few
-
--- of other words nothing is said
-pub few_of : (order : Option OrderView) (other : OrderView) (before now : Outside) → order ≡ Some other → FewReads (Some other) before now → FewReads order before now
-few_of order other before now is few = subst (λ (x : Option OrderView). FewReads x before now) (sym is) few

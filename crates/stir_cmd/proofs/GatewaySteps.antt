@@ -1,9 +1,6 @@
 -- The steps of `retarget`: what comes of a message is what is answered to it.
-use Rattle.std.proofs.Common.{◌≡◌, ℕ, ◌≤◌, inl, inr, nat_le, true, List, Option, Result, Ok, Err, IfOk, IsTrue, refl, ap, ◌∙◌, subst, arith}
-use Rattle.std.proofs.lemmas.Bool.Decides.{nat_tests}
-use Rattle.text_grammar.specs.Moment.{last_second}
-use Rattle.text_grammar.specs.Uri.{is_uri}
-use Rattle.retarget.specs.Hop.{HopView, is_hop}
+use Rattle.std.proofs.Common.{◌≡◌, ℕ, inl, inr, true, List, Option, Result, Ok, Err, IfOk, refl, ap, ◌∙◌, subst}
+use Rattle.retarget.specs.Hop.{HopView}
 use Rattle.retarget.specs.declared.fault.HopFault.{HopFault}
 use Rattle.retarget.specs.declared.fault.HopFault.TheVariants as faults
 use Rattle.stir_cmd.specs.Sending.{IsAnswerOf, IsOverChains, IsSentOn, MayCome, PlaceView}
@@ -11,12 +8,12 @@ use Rattle.stir_files.specs.Retargeting.{RetargetingOf}
 use Rattle.stir_files.specs.declared.retargeting.RetargetingMaterials.{RetargetingMaterials}
 use Rattle.stir_outside.specs.Files.{Files}
 use Rattle.stir_outside.specs.Status.{status_number}
-use Rattle.stir_words.specs.Order.{IsRetargeting, RetargetingView}
+use Rattle.stir_words.specs.Order.{RetargetingView}
 use Rattle.verify_rules.specs.Call.{Reading}
 use Rattle.verify_rules.specs.States.{State}
 use Rattle.verify_rules.specs.declared.verdict.Verdict.TheVariants as verdicts
 use Rattle.stir_cmd.specs.Answer.{Reply}
-use Rattle.stir_cmd.specs.Gateway.{GatewayGives, HasHopLine, HeldFor, IsListed, gateway_answering, hop_by, hop_line, is_wanting}
+use Rattle.stir_cmd.specs.Gateway.{GatewayGives, HeldFor, IsListed, gateway_answering, hop_line, is_wanting}
 use Rattle.stir_cmd.specs.Input.{RanInput}
 use Rattle.stir_cmd.specs.Outside.{Io}
 
@@ -106,29 +103,7 @@ pub other_place : (place other : PlaceView) (hop : HopView) (told : Option Files
 other_place place other hop told faults_before faults_now before now status same ran =
     subst (λ (p : PlaceView). RanInput (gateway_answering p hop told faults_before faults_now) before now status) same ran
 
--- ---- which faults come
-
-pub has_line : (before now : ℕ) (fault : HopFault) → MayCome before now fault → HasHopLine fault
-has_line before now (faults.Verdict verdicts.Passed) may = may
-has_line before now (faults.Verdict (verdicts.Refused refused)) may = tt
-has_line before now (faults.Verdict (verdicts.Unread bad)) may = tt
-has_line before now (faults.Verdict (verdicts.Unasked bad)) may = may
-has_line before now faults.Target may = tt
-has_line before now faults.Loop may = tt
-has_line before now faults.Full may = tt
-has_line before now faults.Size may = tt
-has_line before now faults.Authority may = tt
-has_line before now (faults.NoSignature digest) may = tt
-has_line before now faults.Provider may = may
-has_line before now faults.Memory may = tt
-
 -- ---- the files, and what the words say
 
 pub is_listed : (files : Option Files) (words : RetargetingView) (materials : RetargetingMaterials) → RetargetingOf files words materials → IsListed materials
 is_listed files words materials r = r.leaf.holds.listed
-
-valid_hop : (hop : HopView) → is_uri hop.x5u ≡ true → hop.iat ≤ last_second → IsTrue (is_hop hop)
-valid_hop hop uri within = let t : nat_le hop.iat last_second ≡ true = grind (arith, nat_tests) in rw (uri, t) refl
-
-pub retargeting_valid : (words : RetargetingView) → IsRetargeting words → IsTrue (is_hop (hop_by words))
-retargeting_valid words r = valid_hop (hop_by words) r.by.uri r.by.within

@@ -1,9 +1,7 @@
 -- The steps of a run over a whole input.
 use Rattle.std.proofs.Common.{◌≡◌, ℕ, ◌+◌, ◌<◌, ◌≤◌, ◌⊎◌, inl, inr, List, [], length, Option, Result, Ok, Err, IfOk, refl, sym, ap, subst, arith}
 use Rattle.std.specs.Io.KnownBytes.{Consumes, IsAtEnd}
-use Rattle.log_run.specs.Ending.{failed_line}
-use Rattle.stir_outside.specs.Count.{Rose}
-use Rattle.stir_outside.specs.Ending.{EndsAs, memory_line}
+use Rattle.stir_outside.specs.Ending.{memory_line}
 use Rattle.stir_outside.specs.Status.{status_number}
 use Rattle.stir_outside.specs.Told.{Takes}
 use Rattle.stir_cmd.specs.Answer.{Reply}
@@ -24,11 +22,6 @@ pub if_given : {E : Type 0} (command : Answering) (bytes : List ℕ) (reply : Re
     → IfOk reply (λ r. IsGiven command bytes r.text (status_number r.status))
 if_given command bytes (Ok reply) short gives = inl (short, gives)
 if_given command bytes (Err wanting) short gives = tt
-
-pub if_long : {E : Type 0} (command : Answering) (bytes : List ℕ) (reply : Result Reply E) → command.most < length bytes → IfOk reply (λ r. command.Long r.text (status_number r.status))
-    → IfOk reply (λ r. IsGiven command bytes r.text (status_number r.status))
-if_long command bytes (Ok reply) more gives = inr (more, gives)
-if_long command bytes (Err wanting) more gives = tt
 
 -- ---- the input
 
@@ -53,24 +46,4 @@ ran_reply command before now bytes status t short ended r = record {
   said = r.said;
   says = said_by command before now bytes r.text r.said (taken_is before.left now.left bytes t) ended r.gives;
   ends = r.ends;
-}
-
-pub ran_failed : (command : Answering) (before now : Io) (bytes : List ℕ) (status : ℕ) → Takes before.left now.left [] bytes → length bytes ≤ command.most + 1 → Rose before.read_faults now.read_faults
-    → EndsAs before.written now.written before.write_faults now.write_faults status failed_line 3 → RanInput command before now status
-ran_failed command before now bytes status t short rose ends = record {
-  limited = takes_at_most command.most before.left now.left bytes t short;
-  text = failed_line;
-  said = 3;
-  says = inr (inl (record { rose = rose; line = refl; said = refl }));
-  ends = ends;
-}
-
-pub ran_short : (command : Answering) (before now : Io) (bytes : List ℕ) (status : ℕ) → Takes before.left now.left [] bytes → length bytes ≤ command.most + 1
-    → EndsAs before.written now.written before.write_faults now.write_faults status memory_line 6 → RanInput command before now status
-ran_short command before now bytes status t short ends = record {
-  limited = takes_at_most command.most before.left now.left bytes t short;
-  text = memory_line;
-  said = 6;
-  says = inr (inr (record { line = refl; said = refl }));
-  ends = ends;
 }

@@ -1,5 +1,5 @@
 -- What comes of a message at the gateway, from what its steps came to.
-use Rattle.std.proofs.Common.{◌≡◌, ℕ, ◌⊎◌, inl, inr, Bool, true, false, List, length, Option, Result, Ok, Err, IfErr, IfOk, refl, sym, ap, subst}
+use Rattle.std.proofs.Common.{◌≡◌, ℕ, ◌⊎◌, inl, inr, Bool, true, false, List, length, Option, Result, Ok, Err, IfErr, IfOk, refl, ap, subst}
 use Rattle.std.specs.List.{list_any}
 use Rattle.std.proofs.lemmas.Map.Keys.{any_passes_from_place}
 use Rattle.cert_store.specs.Asking.{is_failed}
@@ -23,7 +23,6 @@ use Rattle.retarget.specs.Hop.{HopView}
 use Rattle.retarget.specs.NextHop.{BreaksNone}
 use Rattle.retarget.specs.Outcome.{IsRetargeted, TellsOfDiversion}
 use Rattle.retarget.specs.Promise.{CausedOnward, GivesOnward}
-use Rattle.retarget.specs.Screened.{IsScreenedFor}
 use Rattle.retarget.specs.Verdicts.{IsFinished, NamesNoPass, verdict_of}
 use Rattle.retarget.specs.declared.fault.HopFault.{HopFault}
 use Rattle.retarget.specs.declared.fault.HopFault.TheVariants as faults
@@ -120,7 +119,3 @@ over_chains place told before now says signs hop bytes screened states seen resu
     }
 
 -- ---- what was screened is what the gateway takes
-
-pub screened_for : (place : PlaceView) (hop : HopView) (bytes : List ℕ) (screened : ScreenedView) → hop.local ≡ place.settings.local → IsScreenedBy early_rules (call_at place bytes) (Ok screened)
-    → IsScreenedFor bytes place.moment hop.local screened
-screened_for place hop bytes screened same passed = record { settings = place.settings; numbering = sym same; is = passed }

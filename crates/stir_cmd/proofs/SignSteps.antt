@@ -1,14 +1,8 @@
 -- The steps of `sign` and `divert`: what the call gives of bytes is what is answered to them.
-use Rattle.std.proofs.Common.{◌≡◌, ℕ, ◌+◌, ◌≤◌, inl, inr, nat_le, true, List, length, Option, Some, None, Result, Ok, Err, IfErr, IfOk, IsTrue, refl, ◌∙◌, ap, subst, arith}
-use Rattle.std.proofs.lemmas.Bool.Decides.{nat_tests}
-use Rattle.text_grammar.specs.Moment.{last_second}
-use Rattle.text_grammar.specs.Uri.{is_uri}
-use Rattle.passport_claims.specs.Form.{form_kind}
-use Rattle.passport_claims.specs.Made.{has_origid}
+use Rattle.std.proofs.Common.{◌≡◌, ℕ, ◌+◌, ◌≤◌, inr, true, List, length, Option, Some, None, Result, Ok, Err, IfErr, IfOk, refl, subst, arith}
 use Rattle.passport_claims.specs.declared.form.Form.{Form}
-use Rattle.passport_claims.specs.declared.form.Form.TheVariants as forms
 use Rattle.auth_service.specs.Answer.{names_provider}
-use Rattle.auth_service.specs.Order.{HolderView, OrderView, is_order, kind_of, shape_of}
+use Rattle.auth_service.specs.Order.{HolderView, OrderView}
 use Rattle.auth_service.specs.Promise.{IsPromised}
 use Rattle.auth_service.specs.declared.fault.SignFault.{SignFault}
 use Rattle.auth_service.specs.declared.fault.SignFault.TheVariants as faults
@@ -19,13 +13,10 @@ use Rattle.stir_files.specs.declared.signing.SigningMaterials.{SigningMaterials}
 use Rattle.stir_files.specs.Stop.{Truly}
 use Rattle.stir_outside.specs.Count.{Rose}
 use Rattle.stir_outside.specs.Files.{Counts, CountsGoOn, Files}
-use Rattle.stir_outside.specs.Held.{held_signs}
-use Rattle.stir_words.specs.Order.{DivertingView, HolderNames, IsDiverting, IsSigning, SigningView}
-use Rattle.stir_outside.specs.Status.{status_number}
-use Rattle.stir_cmd.specs.Answer.{Reply}
+use Rattle.stir_words.specs.Order.{HolderNames}
 use Rattle.stir_cmd.specs.Input.{RanInput}
 use Rattle.stir_cmd.specs.Outside.{Outside, io, outside}
-use Rattle.stir_cmd.specs.Signing.{GivesFault, GivesMessage, GivesWhy, HasLine, HasList, IsDecided, RefusedFor, SignCommand, SignGives, diverting_command, fault_line, files_named, holder_by, sign_answering, sign_course, sign_over, signing_command}
+use Rattle.stir_cmd.specs.Signing.{GivesMessage, GivesWhy, HasList, SignCommand, files_named, sign_answering, sign_course, sign_over}
 use Rattle.stir_cmd.specs.Stopping.{EndsEarly}
 use Rattle.stir_cmd.proofs.OverFilesSteps.{goes_on}
 
@@ -51,39 +42,6 @@ refuses_of items order holder signs bytes (Err faults.Authority) p failed = reco
 refuses_of items order holder signs bytes (Err (faults.NoSignature digest)) p failed = record { decided = refl; gives = p.exact; caused = p.causes }
 refuses_of items order holder signs bytes (Err faults.Provider) p failed = absurd (never (failed refl))
 refuses_of items order holder signs bytes (Err faults.Memory) p failed = tt
-
-pub has_line : (order : OrderView) (holder : Option HolderView) (signs : Signs) (bytes : List ℕ) (why : SignFault) → GivesWhy order holder signs bytes why → HasLine why
-has_line order holder signs bytes faults.Form h = tt
-has_line order holder signs bytes faults.NoNumber h = tt
-has_line order holder signs bytes faults.Authority h = tt
-has_line order holder signs bytes (faults.NoSignature digest) h = tt
-has_line order holder signs bytes faults.Provider h = absurd h
-has_line order holder signs bytes faults.Memory h = tt
-
-fault_of : (order : OrderView) (holder : Option HolderView) (signs : Signs) (bytes : List ℕ) (why : SignFault) → GivesWhy order holder signs bytes why → IsDecided why → GivesFault order holder signs bytes why
-fault_of order holder signs bytes faults.Form h d = h
-fault_of order holder signs bytes faults.NoNumber h d = h
-fault_of order holder signs bytes faults.Authority h d = h
-fault_of order holder signs bytes (faults.NoSignature digest) h d = h
-fault_of order holder signs bytes faults.Provider h d = absurd h
-fault_of order holder signs bytes faults.Memory h d = let k : ◌≡◌ {A = Option SignFault} None (Some faults.Memory) = d in absurd cc
-
--- ---- what is answered
-
-pub message_given : (order : OrderView) (materials : SigningMaterials) (bytes out : List ℕ) → GivesMessage order (holder_by materials.holder) (held_signs materials.answers) bytes out
-    → SignGives order materials bytes out 0
-message_given order materials bytes out gave = inl (record { said = refl; gave = gave })
-
-pub fault_given : {E : Type 0} (order : OrderView) (materials : SigningMaterials) (bytes key : List ℕ) (why : SignFault) (reply : Result Reply E)
-    → GivesWhy order (holder_by materials.holder) (held_signs materials.answers) bytes why → key ≡ order.key
-    → IfOk reply (λ r. RefusedFor key why r.text (status_number r.status)) → IfOk reply (λ r. SignGives order materials bytes r.text (status_number r.status))
-fault_given order materials bytes key why (Ok reply) gives same refused = inr (record {
-  said = refused.said;
-  fault = why;
-  refuses = fault_of order (holder_by materials.holder) (held_signs materials.answers) bytes why gives refused.decides;
-  line = refused.line ∙ ap (λ (x : List ℕ). fault_line x why) same;
-})
-fault_given order materials bytes key why (Err wanting) gives same refused = tt
 
 -- ---- the files
 
@@ -122,17 +80,3 @@ from_stop command answers names before now status same_answers same_holder early
     inr (subst (λ (x : List NamedFile). EndsEarly x before now status) (same_named command answers names same_answers same_holder) early)
 
 -- ---- what the words say can be signed
-
-kind_is : (form : Form) → kind_of (shape_of form) ≡ form_kind form
-kind_is forms.Base = refl
-kind_is forms.Compact = refl
-kind_is (forms.Shaken level origid) = refl
-
-valid_order : (order : OrderView) → is_uri order.x5u ≡ true → order.iat ≤ last_second → has_origid (kind_of order.shape) ≡ true → IsTrue (is_order order)
-valid_order order uri within origid = let t : nat_le order.iat last_second ≡ true = grind (arith, nat_tests) in rw (uri, t, origid) refl
-
-pub signing_valid : (words : SigningView) → IsSigning words → IsTrue (is_order (signing_command words).order)
-signing_valid words s = valid_order (signing_command words).order s.by.uri s.by.within (ap has_origid (kind_is words.form) ∙ s.origid)
-
-pub diverting_valid : (words : DivertingView) → IsDiverting words → IsTrue (is_order (diverting_command words).order)
-diverting_valid words s = valid_order (diverting_command words).order s.by.uri s.by.within refl

@@ -1,9 +1,8 @@
 -- The steps of reading one file.
 use Rattle.std.proofs.Common.{◌≡◌, ℕ, ◌≤◌, List, length, Option, Some, Result, Err, ap, subst}
-use Rattle.stir_outside.proofs.CountLaws.{then_rose}
 use Rattle.stir_outside.specs.Count.{Rose}
-use Rattle.stir_outside.specs.Files.{Counts, CountsGoOn, Files, OfFile}
-use Rattle.stir_files.specs.Inputs.{Adds, TakesIn, file_of}
+use Rattle.stir_outside.specs.Files.{Counts, Files, OfFile}
+use Rattle.stir_files.specs.Inputs.{Adds}
 use Rattle.stir_files.specs.Named.{CausedBy, FaultSays, IsRefusal, NamedFile, ShelfSays, refusal_of}
 use Rattle.stir_files.specs.declared.fault.FileFault.{FileFault}
 use Rattle.stir_files.specs.declared.fault.FileFault.TheVariants.{Missing, Long, Failed, Refused, NoList, Memory}
@@ -24,13 +23,6 @@ place_at read place h = ap refusal_of h
 
 -- ---- a content that was read
 
-pub taken_in : (files : Option Files) (file : InputFile) (content : List ℕ) (before now : Inputs) → length content ≤ (file_of file).limit
-    → OfFile files (file_of file).name (λ held. held ≡ Some content) → TakesIn file content before now → Adds files file before now
-taken_in files file content before now short told takes = record {
-  holds = record { content = content; short = short; told = told; holds = takes.holds };
-  others = takes.others;
-}
-
 -- a content that was read and is refused
 pub refused_so : (files : Option Files) (named : NamedFile) (content : List ℕ) (fault : FileFault) → length content ≤ named.limit
     → OfFile files named.name (λ held. held ≡ Some content) → IsRefusal (named.refused content) fault → FaultSays files named fault
@@ -50,14 +42,6 @@ refused_caused before now refusal NoList rose h = rose
 refused_caused before now refusal Memory rose h = tt
 
 -- ---- after others
-
-pub caused_later : (before mid now : Counts) (fault : FileFault) → CountsGoOn before mid → CausedBy mid now fault → CausedBy before now fault
-caused_later before mid now Missing goes cause = then_rose before.misses mid.misses now.misses goes.misses.never_falls cause
-caused_later before mid now Long goes cause = then_rose before.longs mid.longs now.longs goes.longs.never_falls cause
-caused_later before mid now Failed goes cause = then_rose before.faults mid.faults now.faults goes.faults.never_falls cause
-caused_later before mid now (Refused place) goes cause = then_rose before.reads mid.reads now.reads goes.reads.never_falls cause
-caused_later before mid now NoList goes cause = then_rose before.reads mid.reads now.reads goes.reads.never_falls cause
-caused_later before mid now Memory goes cause = tt
 
 -- the shelf tells the same files
 pub adds_then : (files mid : Option Files) (file : InputFile) (before now : Inputs) → mid ≡ files → Adds mid file before now → Adds files file before now

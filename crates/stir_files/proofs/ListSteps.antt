@@ -44,9 +44,6 @@ pub record ReadsOn (files : Option Files) (left all : List InputFile) (inputs : 
   pub adds : (now : Inputs) → AddsAll files left inputs now → AddsAll files all no_inputs now
   pub stops : (stop : Stop) → StopsAt files (files_named left) stop → StopsAt files (files_named all) stop
 
-pub none_yet : (files : Option Files) (all : List InputFile) → ReadsOn files all all no_inputs
-none_yet files all = record { adds = λ now h. h; stops = λ stop h. h }
-
 one_read : (files : Option Files) (file : InputFile) (left all : List InputFile) (before now : Inputs) → ReadsOn files (file ∷ left) all before → Adds files file before now
     → ReadsOn files left all now
 one_read files file left all before now reads one = record {

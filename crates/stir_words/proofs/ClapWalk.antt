@@ -1,11 +1,10 @@
 -- How clap walks over words that are options, one option after another.
-use Rattle.std.proofs.Common.{◌≡◌, Bool, true, false, not, cond, ◌&&◌, ◌⊎◌, inl, inr, List, [], ◌∷◌, ◌++◌, map, codes, Option, Some, None, refl, sym, ◌∙◌, ap, append-nil, append_assoc}
+use Rattle.std.proofs.Common.{◌≡◌, Bool, true, false, not, ◌&&◌, ◌⊎◌, inl, inr, List, [], ◌∷◌, ◌++◌, map, codes, Option, Some, None, refl, sym, ◌∙◌, ap, append-nil, append_assoc}
 use Rattle.std.specs.List.{fold}
 use Rattle.std.proofs.lemmas.List.{map-append}
 use Rattle.clap.specs.Faults.{settle_fault, turn_fault, use_fault, walk_fault}
 use Rattle.clap.specs.Kinds.{Kinds, or_else}
 use Rattle.clap.specs.Walk.{Held, Row, Rule, Text, Walk, arg_by_id, arg_by_long, has_row, more_values, option, settled, used, walk_from, walked}
-use Rattle.clap.specs.declared.error.kind.ErrorKind.TheVariants as kind
 use Rattle.clap.specs.declared.parser.matches.ValueSource.TheVariants.{CommandLine}
 use Rattle.lists.proofs.Bytes.{same_bytes}
 use Rattle.stir_words.specs.Options.{Joined, Options, Pair, Parted}
@@ -45,9 +44,6 @@ held_with seen pair = record { rows = map row seen; pending = Some (pair.name, p
 abbrev pub at_value : List Pair → Text → Walk
 at_value seen name =
     record { held = record { rows = map row seen; pending = Some (name, []); skip = 0 }; waiting = option name; position = 1; is_trailing = false; stopped = None }
-
-abbrev twice_fault : Bool → Kinds
-twice_fault stands = or_else (cond (stands && true) (kind.ArgumentConflict ∷ []) []) []
 
 -- it may be used if it wasn't before
 use_is : (name value : Text) (required : Bool) (seen : List Pair) (t : Bool) → has name seen ≡ t → quiet (use_fault false (named name required) (value ∷ []) (map row seen)) ≡ not t

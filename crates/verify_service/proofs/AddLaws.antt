@@ -1,25 +1,15 @@
 -- The valid calls are kept, one call more.
-use Rattle.std.proofs.Common.{◌≡◌, ◌≢◌, ℕ, suc, ◌+◌, ◌<◌, ◌⊎◌, inl, inr, List, length, Some, None, refl, sym, ap, ◌∙◌, subst, arith}
+use Rattle.std.proofs.Common.{◌≡◌, ◌≢◌, ℕ, suc, ◌+◌, ◌<◌, ◌⊎◌, inl, inr, List, Some, sym, ap, ◌∙◌, subst, arith}
 use Rattle.std.proofs.lemmas.Option.{same_Some}
 use Rattle.std.specs.List.{slice_get}
 use Rattle.replay_desk.specs.Past.{PastView, found}
-use Rattle.verify_service.specs.Adding.{AddedUpto, AddsCall, AddsOne, IsAdded, IsOnceValid, kept_as}
+use Rattle.verify_service.specs.Adding.{AddedUpto, AddsCall, AddsOne, IsOnceValid, kept_as}
 use Rattle.verify_service.specs.Carrying.{out_at}
 use Rattle.verify_service.specs.Ready.{ticket_in}
 use Rattle.verify_service.specs.declared.outcome.Outcome.{Outcome}
 use Rattle.verify_service.specs.declared.outcome.Outcome.TheVariants.{Valid, Refused, Replay, Unread, Unasked}
 use Rattle.verify_service.specs.declared.screening.ReadyCall.{ReadyCall}
-use Rattle.verify_service.proofs.OutLaws.{below_more, in_bounds, next}
-
-pub added_none : (past : PastView) (calls : List ReadyCall) (outs : List Outcome) → AddedUpto past past calls outs 0
-added_none past calls outs = record { valid = λ at call stands below is. absurd (omega arith); others = λ ticket lacks. refl }
-
--- of a valid call at an index nothing is kept for its ticket yet
-pub free_yet : (past mid : PastView) (calls : List ReadyCall) (outs : List Outcome) (upto : ℕ) (call : ReadyCall) → IsOnceValid past calls outs → AddedUpto past mid calls outs upto
-    → slice_get calls upto ≡ Some call → out_at outs upto ≡ Valid → found mid (ticket_in call.screening) ≡ None
-free_yet past mid calls outs upto call once so_far stands is =
-    so_far.others (ticket_in call.screening) (λ at other there below valid same. let e : at ≡ upto = once.once at upto other call there stands valid is same in absurd (omega arith))
-    ∙ once.free upto call stands is
+use Rattle.verify_service.proofs.OutLaws.{below_more, next}
 
 module _ (past mid next : PastView) (calls : List ReadyCall) (outs : List Outcome) (upto : ℕ) (call : ReadyCall) (once : IsOnceValid past calls outs) (so_far : AddedUpto past mid calls outs upto)
     (stands : slice_get calls upto ≡ Some call) where
@@ -58,12 +48,6 @@ module _ (past mid next : PastView) (calls : List ReadyCall) (outs : List Outcom
   added_next (Replay winner) is adds = added_over (not_valid (Replay winner) (λ e. cc) is) adds
   added_next (Unread bad) is adds = added_over (not_valid (Unread bad) (λ e. cc) is) adds
   added_next (Unasked bad) is adds = added_over (not_valid (Unasked bad) (λ e. cc) is) adds
-
-pub added_all : (past next : PastView) (calls : List ReadyCall) (outs : List Outcome) → AddedUpto past next calls outs (length calls) → IsAdded past next calls outs
-added_all past next calls outs all = record {
-  valid = λ at call stands is. all.valid at call stands (in_bounds calls at call stands) is;
-  others = λ ticket lacks. all.others ticket (λ at call stands below is. lacks at call stands is);
-}
 
 pub add_next : (past mid now : PastView) (calls : List ReadyCall) (outs : List Outcome) (upto : ℕ) (call : ReadyCall) (o : Outcome) → IsOnceValid past calls outs → AddedUpto past mid calls outs upto
     → slice_get calls upto ≡ Some call → out_at outs upto ≡ o → AddsOne call o mid now → AddedUpto past now calls outs (upto + 1)

@@ -68,19 +68,6 @@ module _ (on : Basis) (short long : Provided) (widens : Widens short long) where
       subst (λ (s : Says). OutcomeSays on (record { says = s; asks = long.asks; asks_now = long.asks_now; faults = long.faults; faults_now = long.faults_now }) call outcome)
       (sym widens.says) (said_says call outcome said)
 
--- ---- nothing yet
-
-pub answered_none : {P : Type 0} → (on : Basis) (provider : ProviderOf P) (p : P) (calls : List ReadyCall) (count worker : ℕ) (outs : List Outcome)
-    → Answered on (provided provider p p) calls count worker 0 outs
-answered_none on provider p calls count worker outs = record {
-  said = λ at call stands below own. absurd (omega arith);
-  cause = λ at below own. absurd (omega arith);
-  asks_most = omega arith;
-  asks_stay = omega arith;
-  unasked = inl (omega arith);
-  faults_stay = omega arith;
-}
-
 -- ---- the call of another
 
 module _ (on : Basis) (by : Provided) (calls : List ReadyCall) (count worker upto : ℕ) (outs : List Outcome) where

@@ -259,9 +259,6 @@ joined_some t ts = by ts (list_any (bytes_eq t) ts) refl
     by (x ∷ xs) true is = omega arith
     by xs false is = omega arith
 
-joined_more : (t : List ℕ) (ts : List (List ℕ)) → 1 ≤ length ts → 1 ≤ length (joined t ts)
-joined_more t ts some = joined_some t ts
-
 unread_some_one : (call : Call) (outcome : Outcome) (texts : List (List ℕ)) → (is_unread outcome ≡ true) ⊎ (1 ≤ length texts) → 1 ≤ length (with_unread call outcome texts)
 unread_some_one call Valid texts (inl is) = absurd (false_is_not_true is)
 unread_some_one call Valid texts (inr some) = some

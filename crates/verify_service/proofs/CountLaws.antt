@@ -1,20 +1,11 @@
 -- How the counts of shelf and provider add up over the chains of a call, over calls, and over a round.
 use Rattle.std.proofs.Common.{◌≡◌, ℕ, ◌+◌, ◌≤◌, Bool, true, false, cond, List, [], ◌∷◌, ◌++◌, length, filter, zero-add, refl, sym, ◌∙◌, subst, arith}
 use Rattle.std.specs.List.{list_any}
-use Rattle.stir_outside.specs.Count.{AtMost, GoesOn}
+use Rattle.stir_outside.specs.Count.{AtMost}
 use Rattle.stir_outside.proofs.CountLaws.{at_most_of_rose, both_at_most, none_at}
-use Rattle.stir_outside.specs.Files.{Counts, CountsGoOn}
-use Rattle.call_judging.proofs.CauseLaws.{cause_more, cause_none}
+use Rattle.call_judging.proofs.CauseLaws.{cause_more}
 use Rattle.call_judging.specs.Causes.{HasCauseIf}
 use Rattle.verify_service.specs.Causes.{AreCounted}
-
--- ---- one count after the other
-
-stays : (count : ℕ) → GoesOn count count
-stays count = record { never_falls = omega arith; within = omega arith }
-
-pub stay : (counts : Counts) → CountsGoOn counts counts
-stay counts = record { reads = stays counts.reads; misses = stays counts.misses; longs = stays counts.longs; faults = stays counts.faults }
 
 -- ---- counted
 
@@ -41,9 +32,6 @@ counted_more p xs x before mid now stayed further so_far cause = record {
   most = subst (λ n. AtMost n before now) (sym (filter_more p xs x)) (at_most_more (p x) (length (filter p xs)) before mid now so_far.most further cause);
   cause = cause_more p xs x before mid now stayed further so_far.cause cause;
 }
-
-pub counted_none : {X : Type 0} (p : X → Bool) (before : ℕ) → AreCounted p [] before before
-counted_none p before = record { most = none_at before before (omega arith); cause = cause_none p before }
 
 -- the same of as many others
 pub counted_as : {X Y : Type 0} (p : X → Bool) (q : Y → Bool) (xs : List X) (ys : List Y) (before now : ℕ) → length (filter q ys) ≡ length (filter p xs) → list_any q ys ≡ list_any p xs

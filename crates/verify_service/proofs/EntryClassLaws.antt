@@ -84,12 +84,6 @@ none_class class is = ap is_some is
 abbrev pub ClassedCall : ReadyCall → Type 0
 ClassedCall call = is_some call.class ≡ is_passed call.screening
 
--- the rules of the call refuse it or don't
-passed_first : (call : Call) (one : Screening) → is_passed one ≡ true → IsScreening call one → first early_rules call ≡ None
-passed_first call screenings.Open passed is = absurd (false_is_not_true passed)
-passed_first call (screenings.Refused refused) passed is = absurd (false_is_not_true passed)
-passed_first call (screenings.Passed screened) passed is = is.0
-
 apart_refusal : (o : Option Refusal) (refused : Refusal) → o ≡ Some refused → o ≡ None → ⊥
 apart_refusal o refused some none = cc
 

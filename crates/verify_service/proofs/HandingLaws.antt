@@ -47,22 +47,12 @@ itself a = (bytes_eq-Decides a a).1 refl
 
 -- ---- each is found by its ticket, and before it none is
 
--- a ticket below all of these isn't among them
-none_above : (ticket : List ℕ) (before : List ℕ) (es : List Entry) → slice_cmp nat_cmp ticket before ≡ Less → Rises (Some before) es → lookup (bytes_eq ticket) es ≡ None
-none_above ticket before [] less rise = refl
-none_above ticket before (e ∷ es) less rise =
-    let above = nat_list_cmp_total.trans ticket before e.0 less (is_below before e.0 rise.0) in
-    rw (unequal ticket e.0 (apart ticket e.0 above)) (none_above ticket e.0 es above rise.1)
-
 -- one that comes later is above this one
 stands_above : (before : List ℕ) (es : List Entry) (at : ℕ) (e : Entry) → Rises (Some before) es → slice_get es at ≡ Some e → slice_cmp nat_cmp before e.0 ≡ Less
 stands_above before [] at e rise is = absurd (none-some e is)
 stands_above before (x ∷ es) zero e rise is = subst (λ (y : Entry). slice_cmp nat_cmp before y.0 ≡ Less) (same_Some x e is) (is_below before x.0 rise.0)
 stands_above before (x ∷ es) (suc at) e rise is =
     nat_list_cmp_total.trans before x.0 e.0 (is_below before x.0 rise.0) (stands_above x.0 es at e rise.1 is)
-
-rises_on : (before : Option (List ℕ)) (e : Entry) (es : List Entry) → Rises before (e ∷ es) → Rises (Some e.0) es
-rises_on before e es rise = rise.1
 
 pub found_each : (before : Option (List ℕ)) (es : List Entry) (at : ℕ) (e : Entry) → Rises before es → slice_get es at ≡ Some e → lookup (bytes_eq e.0) es ≡ Some e.1
 found_each before [] at e rise is = absurd (none-some e is)

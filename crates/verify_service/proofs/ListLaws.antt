@@ -1,5 +1,5 @@
 -- Laws of lists: one element more, and what holds of two lists pair by pair.
-use Rattle.std.proofs.Common.{◌≡◌, ℕ, zero, suc, ◌+◌, ◌<◌, Some, List, [], ◌∷◌, ◌++◌, length, map, take, get_or, ap, sym, ◌∙◌, refl, arith}
+use Rattle.std.proofs.Common.{◌≡◌, ℕ, zero, suc, ◌+◌, ◌<◌, Some, List, [], ◌∷◌, ◌++◌, length, map, take, get_or, ap, sym, ◌∙◌, refl}
 use Rattle.std.specs.List.{slice_get}
 use Rattle.std.proofs.lemmas.Option.{same_Some}
 use Rattle.std.proofs.lemmas.List.{take_more}
@@ -23,25 +23,8 @@ each_more R [] (b ∷ ys) x y each here = absurd each
 each_more R (a ∷ xs) [] x y each here = absurd each
 each_more R (a ∷ xs) (b ∷ ys) x y each here = (each.0, each_more R xs ys x y each.1 here)
 
-pub each_at : {A B : Type 0} → (R : A → B → Type 0) (xs : List A) (ys : List B) (i : ℕ) (d : A) (e : B) → EachPair R xs ys → i < length xs → R (get_or xs i d) (get_or ys i e)
-each_at R [] [] i d e each within = absurd (omega arith)
-each_at R [] (b ∷ ys) i d e each within = absurd each
-each_at R (a ∷ xs) [] i d e each within = absurd each
-each_at R (a ∷ xs) (b ∷ ys) zero d e each within = each.0
-each_at R (a ∷ xs) (b ∷ ys) (suc i) d e each within = each_at R xs ys i d e each.1 (omega arith)
-
 pub each_length : {A B : Type 0} → (R : A → B → Type 0) (xs : List A) (ys : List B) → EachPair R xs ys → length ys ≡ length xs
 each_length R [] [] each = refl
 each_length R [] (b ∷ ys) each = absurd each
 each_length R (a ∷ xs) [] each = absurd each
 each_length R (a ∷ xs) (b ∷ ys) each = ap suc (each_length R xs ys each.1)
-
--- what holds of the first and the second, and of the second and the third
-pub each_then : {A B C : Type 0} → (R : A → B → Type 0) (S : B → C → Type 0) (T : A → C → Type 0) → ((a : A) (b : B) (c : C) → R a b → S b c → T a c)
-    → (xs : List A) (ys : List B) (zs : List C) → EachPair R xs ys → EachPair S ys zs → EachPair T xs zs
-each_then R S T law [] [] [] one other = tt
-each_then R S T law [] [] (c ∷ zs) one other = absurd other
-each_then R S T law [] (b ∷ ys) zs one other = absurd one
-each_then R S T law (a ∷ xs) [] zs one other = absurd one
-each_then R S T law (a ∷ xs) (b ∷ ys) [] one other = absurd other
-each_then R S T law (a ∷ xs) (b ∷ ys) (c ∷ zs) one other = (law a b c one.0 other.0, each_then R S T law xs ys zs one.1 other.1)

@@ -46,8 +46,3 @@ pub get_stands : {X : Type 0} → (xs : List X) (i : ℕ) (x d : X) → i < leng
 get_stands [] i x d within is = absurd (omega arith)
 get_stands (y ∷ ys) zero x d within is = ap (λ z. Some z) (sym is)
 get_stands (y ∷ ys) (suc i) x d within is = get_stands ys i x d (omega arith) is
-
-pub out_is : (outs : List Outcome) (at : ℕ) (o d : Outcome) → at < length outs → o ≡ get_or outs at d → out_at outs at ≡ o
-out_is [] at o d within is = absurd (omega arith)
-out_is (x ∷ outs) zero o d within is = sym is
-out_is (x ∷ outs) (suc at) o d within is = out_is outs at o d (omega arith) is

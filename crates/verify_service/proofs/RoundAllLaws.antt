@@ -1,6 +1,5 @@
 -- All that a round says of its calls and its chains, from what it prepared and carried out.
-use Rattle.std.proofs.Common.{◌≡◌, ℕ, ◌+◌, ◌*◌, ◌≤◌, ◌<◌, ◌%◌, Bool, true, false, ◌||◌, List, [], ◌∷◌, length, Option, Some, mod-lt, refl, sym, ap, ◌∙◌, subst, arith, length-append}
-use Rattle.std.specs.List.{list_any}
+use Rattle.std.proofs.Common.{◌≡◌, ℕ, ◌+◌, ◌*◌, ◌≤◌, ◌<◌, ◌%◌, Bool, true, false, List, [], ◌∷◌, length, Option, Some, mod-lt, refl, sym, ap, ◌∙◌, subst, arith, length-append}
 use Rattle.call_log.specs.Entry.{Entry}
 use Rattle.cert_store.specs.Holding.{AreAnswered, Holding}
 use Rattle.cert_store.specs.Rules.{Says}
@@ -24,7 +23,7 @@ use Rattle.verify_service.specs.Reads.{HasAsked, HasJudged, ReadsFew, StaysHeld}
 use Rattle.verify_service.specs.RightChains.{AreRightHeld}
 use Rattle.verify_service.specs.RoundRead.{HasAskedOwn, RoundReads, own_of}
 use Rattle.verify_service.specs.Rows.{EachOwed, RoundLegal, rows_of}
-use Rattle.verify_service.specs.Screening.{IsReady, is_open, readings_in}
+use Rattle.verify_service.specs.Screening.{IsReady, readings_in}
 use Rattle.verify_service.specs.Service.{AreJudged, HoldsRight, IsSameConfig, ServiceView, held_texts, materials_of, texts_in, world_of}
 use Rattle.verify_service.specs.declared.outcome.Outcome.{Outcome}
 use Rattle.verify_service.specs.declared.screening.ReadyCall.{ReadyCall}
@@ -179,14 +178,6 @@ module _ (laws : RoundLaws) (told : Option Files) (service : ServiceView) (says 
       parts.ready parts.reads aside parts.some (mid_stays stayed))
 
 -- ---- before the calls are judged
-
-pub none_open : (settings : Settings) (entries : List Entry) (calls : List ReadyCall) → EachPair (IsReady settings) entries calls
-    → list_any (λ (call : ReadyCall). is_open call.screening) calls ≡ false
-none_open settings [] [] ready = refl
-none_open settings [] (call ∷ calls) ready = absurd ready
-none_open settings (entry ∷ entries) [] ready = absurd ready
-none_open settings (entry ∷ entries) (call ∷ calls) ready =
-    ap (λ b. b || list_any (λ (c : ReadyCall). is_open c.screening) calls) ready.0.known ∙ none_open settings entries calls ready.1
 
 named_few : (call : ReadyCall) → length (readings_in call.screening) ≤ 9 → length (named_by call.screening) ≤ 9
 named_few call few = by call.screening few

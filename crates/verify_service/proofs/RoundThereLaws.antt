@@ -1,5 +1,5 @@
 -- The chains of a round are right, and there.
-use Rattle.std.proofs.Common.{◌≡◌, ℕ, ◌≤◌, Bool, true, false, not, ◌&&◌, List, [], length, is_some, inr, Option, refl, sym, ◌∙◌, subst, arith}
+use Rattle.std.proofs.Common.{◌≡◌, ℕ, ◌≤◌, Bool, true, false, not, ◌&&◌, List, [], length, is_some, inr, Option, refl, sym, ◌∙◌, subst}
 use Rattle.cert_store.specs.ChainMap.{listed}
 use Rattle.cert_store.specs.Files.{Files as ChainFiles}
 use Rattle.cert_store.specs.Holding.{Chains, Holding, chain_of}
@@ -7,8 +7,6 @@ use Rattle.cert_store.specs.Rules.{Says}
 use Rattle.cert_store.specs.Using.{AreAmong, has}
 use Rattle.cert_store.specs.declared.world.World.{World as Materials}
 use Rattle.stir_outside.specs.Files.{Counts, Files}
-use Rattle.stir_outside.specs.Stays.{ProviderStays}
-use Rattle.stir_outside.specs.declared.provider.Provider.{Ghosts as ProviderOf}
 use Rattle.verify_rules.specs.States.{State}
 use Rattle.verify_service.specs.Kept.{Kept}
 use Rattle.verify_service.specs.Needed.{all_named, needed, round_texts, touch_all}
@@ -66,13 +64,3 @@ are_there these same first touched here others there materials calls states held
     (there_by these same first touched here others materials calls states held now kept stores x given stands (is_some (chain_of x held.entries)) refl) stands
 
 -- ---- the workers
-
--- a provider that stays, and then stays again
-pub stays_then : {P : Type 0} → (provider : ProviderOf P) (old mid one now last : P) → one ≡ mid → now ≡ last → ProviderStays provider old mid → ProviderStays provider one last → ProviderStays provider old now
-stays_then provider old mid one now last same after first second =
-    let then : ProviderStays provider mid now = subst (λ x. ProviderStays provider mid x) (sym after) (subst (λ x. ProviderStays provider x last) same second) in
-    record {
-      says = then.says ∙ first.says;
-      signs = then.signs ∙ first.signs;
-      faults = (let a = first.faults in let b = then.faults in omega arith);
-    }

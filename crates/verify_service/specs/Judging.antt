@@ -7,7 +7,6 @@ use Rattle.verify_rules.specs.Call.{Call, call_of}
 use Rattle.verify_rules.specs.World.{World, First, MayBeUnread, MayBeUnasked}
 use Rattle.verify_rules.specs.declared.settings.Settings.{Settings}
 use Rattle.call_judging.specs.Chains.{world_by}
-use Rattle.call_judging.specs.Judging.{HasSigned, HasTicket, IsFound}
 use Rattle.call_judging.specs.declared.finding.Finding.{Finding}
 use Rattle.call_judging.specs.declared.finding.Finding.TheVariants as found
 use Rattle.cert_store.specs.declared.world.World.{World as Materials}
@@ -63,20 +62,3 @@ EachPair R (a ∷ others) (b ∷ bs) = R a b × EachPair R others bs
 abbrev pub EachJudged : Settings → World → List Entry → List Outcome → Type 0
 EachJudged settings world entries outcomes =
     EachPair (λ entry outcome. IsJudged world (call_in settings entry) outcome) entries outcomes
-
--- the same of each by itself, over the files that a shelf tells
-abbrev pub EachFoundWhere : Option Files → Materials → Says → Settings → List Entry → List Finding → Type 0
-EachFoundWhere None materials says settings entries findings = ⊤
-EachFoundWhere (Some files) materials says settings entries findings = EachPair (λ entry finding.
-    IsFound (world_by materials files says) (call_in settings entry) finding) entries findings
-
-abbrev pub EachHasTicket : Settings → List Entry → List Finding → Type 0
-EachHasTicket settings entries findings =
-    EachPair (λ entry finding. HasTicket (call_in settings entry) finding) entries findings
-
-abbrev pub EachHasSigned : Settings → List Entry → List Finding → Type 0
-EachHasSigned settings entries findings =
-    EachPair (λ entry finding. HasSigned (call_in settings entry) finding) entries findings
-
-abbrev pub EachComesOf : List Finding → List Outcome → Type 0
-EachComesOf findings outcomes = EachPair ComesOf findings outcomes
