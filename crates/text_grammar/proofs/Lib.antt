@@ -1,3 +1,4 @@
+pub mod BlockLaws
 pub mod CutLaws
 pub mod DecimalLaws
 pub mod Laws

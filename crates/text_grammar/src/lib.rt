@@ -4,9 +4,11 @@
 //! Each function takes bytes and answers a value, or a view into the bytes; none takes memory.
 //!
 //! - One byte: [`is_blank`], [`is_name_byte`], [`is_visible`], [`is_uri_byte`], [`lower`].
-//! - A prefix of a text: [`blank_count`] and [`name_len`] count, [`skip_blanks`] and [`front`] cut. [`byte_at`],
-//!   [`letter_at`], [`word_at`] and [`some_at`] take what a format asks for, or answer a [`Stop`] with the text from
-//!   where the reader can't go on.
+//! - A prefix of a text: [`blank_count`], [`name_len`] and [`uri_len`] count, [`skip_blanks`] and [`front`] cut.
+//!   [`byte_at`], [`letter_at`], [`word_at`] and [`some_at`] take what a format asks for, or answer a [`Stop`] with the
+//!   text from where the reader can't go on.
+//! - A block of [`BLOCK`] bytes, each with a mark: [`outside`] takes away the marks of the bytes in a range, and
+//!   [`first_left`] counts up to the first mark that is left. [`uri_len`] tests 32 bytes at a time so.
 //! - A whole text: [`is_word`], [`read_number`], [`is_uri`].
 //! - A text in two: [`cut`] at the first such byte, [`behind`] after a prefix.
 //! - A file of rows, as the chain map, the code table and the answers file are (this project's own form): [`Lines`]
@@ -45,6 +47,7 @@
 //! `crates/vectors/stdin`.
 #![tactic(auto)]
 
+mod blocks;
 mod decimal;
 mod lines;
 mod split;
@@ -57,10 +60,11 @@ ghost use Rattle.text_grammar.specs.Bytes as bytes;
 ghost use Rattle.text_grammar.specs.Reading as reading;
 ghost use Rattle.text_grammar.specs.Gives.{Gives, slice_view, split_view};
 
+pub use blocks::{BLOCK, first_left, outside};
 pub use decimal::read_number;
 pub use lines::{Line, Lines, line_count};
 pub use split::{behind, cut};
-pub use uri::{is_uri, uri_law, uri_text};
+pub use uri::{is_uri, uri_law, uri_len, uri_text};
 pub use words::{Words, words_law, words_of};
 
 /// The last second of the year 9999, in Unix time: the latest moment that a text of this program names (this project's

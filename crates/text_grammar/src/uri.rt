@@ -1,10 +1,11 @@
 //! The URI of a certificate.
-ghost use Rattle.std.specs.Prelude.{◌≡◌, ◌↔◌, ℕ, List, IsTrue, IsUtf8};
-ghost use Rattle.std.specs.List.{list_all};
+ghost use Rattle.std.specs.Prelude.{◌≡◌, ◌↔◌, ◌≤◌, ℕ, List, length, IsTrue, IsUtf8};
+ghost use Rattle.std.specs.List.{list_all, prefix_len};
 ghost use Rattle.text_grammar.specs.Bytes.{is_uri_byte};
 ghost use Rattle.text_grammar.specs.Grammar.{Run};
 ghost use Rattle.text_grammar.specs.Uri.{is_uri};
 
+use crate::blocks::{BLOCK, uri_block_len};
 use crate::is_uri_byte;
 use std::str;
 
@@ -34,7 +35,35 @@ fn has_form_of_uri(text: &[u8]) -> bool
 fn are_uri_bytes(text: &[u8]) -> bool
     ensures { result ≡ list_all is_uri_byte text.now }
 {
-    text.iter().all(|byte| is_uri_byte(*byte))
+    uri_len(text) == text.len()
+}
+
+/// How many uri bytes a text begins with: 32 at a time, the last 32 once more where they overlap.
+pub fn uri_len(text: &[u8]) -> usize
+    ensures count { result ≡ prefix_len is_uri_byte text.now }
+    ensures within { result ≤ length text.now }
+{
+    if text.len() < BLOCK {
+        return uri_len_by_bytes(text);
+    }
+    let last = text.len() - BLOCK;
+    let mut place = 0;
+    'whole: while place < last {
+        let count = uri_block_len(text, place);
+        if count < BLOCK {
+            return place + count;
+        }
+        place += BLOCK;
+    }
+    last + uri_block_len(text, last)
+}
+
+/// How many uri bytes a text begins with, byte by byte.
+fn uri_len_by_bytes(text: &[u8]) -> usize
+    ensures count { result ≡ prefix_len is_uri_byte text.now }
+    ensures within { result ≤ length text.now }
+{
+    text.iter().take_while(|byte| is_uri_byte(**byte)).count()
 }
 
 /// The URI as text: it is ASCII.
