@@ -3,11 +3,10 @@ ghost use Rattle.std.specs.List.{prefix_len, list_all};
 ghost use Rattle.std.specs.Option.{option_copied};
 ghost use Rattle.text_grammar.specs.Grammar.{Any, Run};
 ghost use Rattle.identity_header.specs.Parts as parts;
-ghost use Rattle.text_grammar.specs.Bytes as bytes;
 ghost use Rattle.identity_header.specs.Spelling as spelling;
 
-use crate::blocks::{BLOCK, has_digest_block};
-use text_grammar::is_uri_byte;
+use crate::blocks::digest_block_len;
+use text_grammar::BLOCK;
 
 /// The most bytes of a token.
 pub(crate) const DIGEST_MOST: usize = 8192;
@@ -84,19 +83,24 @@ pub(crate) fn is_bare(text: &[u8]) -> bool
     !text.is_empty() && all_bare(text)
 }
 
-/// How many digest bytes a text begins with: first by whole blocks, and then byte by byte.
+/// How many digest bytes a text begins with: 32 at a time, the last 32 once more where they overlap.
 pub(crate) fn digest_len(text: &[u8]) -> usize
     ensures count { result ≡ prefix_len parts.is_digest_byte text.now }
     ensures within { result ≤ length text.now }
 {
-    let mut sure = 0;
-    'whole: while text.len() - sure >= BLOCK {
-        if !has_digest_block(text, sure) {
-            break;
-        }
-        sure += BLOCK;
+    if text.len() < BLOCK {
+        return digest_len_by_bytes(text);
     }
-    sure + digest_len_by_bytes(&text[sure..])
+    let last = text.len() - BLOCK;
+    let mut place = 0;
+    'whole: while place < last {
+        let count = digest_block_len(text, place);
+        if count < BLOCK {
+            return place + count;
+        }
+        place += BLOCK;
+    }
+    last + digest_block_len(text, last)
 }
 
 /// How many digest bytes a text begins with, byte by byte.
@@ -107,14 +111,6 @@ fn digest_len_by_bytes(text: &[u8]) -> usize
     text.iter()
         .take_while(|byte| is_digest_byte(**byte))
         .count()
-}
-
-/// How many uri bytes a text begins with.
-pub(crate) fn uri_len(text: &[u8]) -> usize
-    ensures count { result ≡ prefix_len bytes.is_uri_byte text.now }
-    ensures within { result ≤ length text.now }
-{
-    text.iter().take_while(|byte| is_uri_byte(**byte)).count()
 }
 
 /// How many bare bytes a text begins with.

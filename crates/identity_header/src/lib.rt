@@ -16,7 +16,8 @@
 //! the place up to which the value could still have become one.
 //!
 //! The token isn't looked into: its three parts are read by `passport_json`. Whether `info` is the URI in the token,
-//! and `ppt` its type, is asked by `passport_claims`.
+//! and `ppt` its type, is asked by `passport_claims`. The bytes of a token and of a URI are tested 32 at a time, by
+//! `text_grammar`'s `outside` and `uri_len`.
 //!
 //! Proved: a value is accepted just if it is in the grammar, with exactly its four parts. The place of a fault is the
 //! length of the longest prefix with which some value begins. What is written is read back ([`field_law`];

@@ -6,8 +6,10 @@ ghost use Rattle.identity_header.specs.Parts as parts;
 ghost use Rattle.identity_header.specs.Reading as reading;
 ghost use Rattle.identity_header.specs.Views.{parts_of, state_view};
 
-use crate::bytes::{DIGEST_MOST, URI_MOST, bare_len, digest_len, quoted_len, uri_len};
-use text_grammar::{Stop, byte_at, front, is_word, name_len, skip_blanks, some_at, word_at};
+use crate::bytes::{DIGEST_MOST, URI_MOST, bare_len, digest_len, quoted_len};
+use text_grammar::{
+    Stop, byte_at, front, is_word, name_len, skip_blanks, some_at, uri_len, word_at,
+};
 
 /// The parts that a reader has met so far.
 #[derive(Clone, Copy, Debug)]
