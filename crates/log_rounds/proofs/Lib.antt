@@ -7,7 +7,6 @@ mod TextLaws
 mod FirstLaws
 mod FollowLaws
 pub mod ReportLaws
-mod SpellingLaws
 pub mod LegalLaws
 pub mod StatusLaws
 pub mod BatchesLaws

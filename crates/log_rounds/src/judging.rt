@@ -8,7 +8,7 @@ ghost use Rattle.stir_outside.specs.Stays.{ShelfStays};
 ghost use Rattle.verify_service.specs.Handing.{IsStateOf};
 ghost use Rattle.verify_service.specs.Service.{Follow, texts_in};
 
-use crate::report::{all_valid, first_number, lines_of};
+use crate::report::{all_valid, first_number};
 use crate::verifier::LogVerifier;
 use crate::workers::workers_of;
 use call_log::Call;
@@ -18,7 +18,7 @@ use std::alloc::{AllocError, Global};
 use std::thread::Threads;
 use stir_outside::{Shelf, files_law};
 use verify_rules::words_law;
-use verify_service::{Carried, State};
+use verify_service::{Carried, State, report_lines};
 
 impl<'a> LogVerifier<'a> {
     /// Judges the calls of a round, of which there are 1 to 256. Their numbers rise and their moments don't fall, from
@@ -84,7 +84,7 @@ impl<'a> LogVerifier<'a> {
             Err(_) => return Err(AnswerError::Memory),
         };
         let outcomes = self.service.close(carried);
-        match lines_of(alloc, first_number(calls), &outcomes) {
+        match report_lines(alloc, first_number(calls), &outcomes) {
             Ok(lines) => Ok(BatchAnswer::new(lines, all_valid(&outcomes))),
             Err(_) => Err(AnswerError::Memory),
         }

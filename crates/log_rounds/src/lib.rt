@@ -31,7 +31,6 @@ mod handing;
 mod judging;
 mod laws;
 mod report;
-mod report_lines;
 mod run;
 mod verifier;
 mod workers;

@@ -1,5 +1,5 @@
 //! The command `retarget`: a message that is judged, and sent on to another number.
-ghost use Rattle.std.specs.Prelude.{◌≡◌, ◌++◌, true, codes, is_some, string_bytes, IfOk, IsTrue};
+ghost use Rattle.std.specs.Prelude.{◌≡◌, ◌++◌, true, codes, is_some, IfOk, IsTrue};
 ghost use Rattle.retarget.specs.Hop.{hop_of, is_hop};
 ghost use Rattle.stir_cmd.specs.Sending.{place_of};
 ghost use Rattle.stir_outside.specs.Stays.{ShelfStays};
@@ -174,22 +174,22 @@ fn refusal(alloc: Global, key: &str, fault: HopFault) -> Answered
 {
     let line = match fault {
         HopFault::Verdict(verdict) => verdict_line(alloc, verdict)?,
-        HopFault::Target => String::from_str(alloc, "hop fault 21\n")?,
-        HopFault::Loop => String::from_str(alloc, "hop fault 22\n")?,
-        HopFault::Full => String::from_str(alloc, "hop fault 23\n")?,
-        HopFault::Size => String::from_str(alloc, "hop fault 24\n")?,
-        HopFault::Authority => String::from_str(alloc, "hop fault 25\n")?,
-        HopFault::NoSignature { digest } => unsigned_line(alloc, key, &digest)?,
+        HopFault::Target => b"hop fault 21\n".to_vec(alloc)?,
+        HopFault::Loop => b"hop fault 22\n".to_vec(alloc)?,
+        HopFault::Full => b"hop fault 23\n".to_vec(alloc)?,
+        HopFault::Size => b"hop fault 24\n".to_vec(alloc)?,
+        HopFault::Authority => b"hop fault 25\n".to_vec(alloc)?,
+        HopFault::NoSignature { digest } => unsigned_line(alloc, key, &digest)?.into_bytes(),
         HopFault::Memory => return Err(AllocError),
         HopFault::Provider => unreachable!(),
     };
-    Ok(Answer::of_text(line, Status::NotAllValid))
+    Ok(Answer::new(line, Status::NotAllValid))
 }
 
 /// The line of a verdict: that the call is refused, or that a chain couldn't be read.
-fn verdict_line(alloc: Global, verdict: Verdict) -> Result<String, AllocError>
+fn verdict_line(alloc: Global, verdict: Verdict) -> Result<Vec<u8>, AllocError>
     requires { HasVerdictLine verdict }
-    ensures { IfOk result (λ line. string_bytes line ≡ verdict_line verdict) }
+    ensures { IfOk result (λ line. line.items ≡ verdict_line verdict) }
 {
     match verdict {
         Verdict::Refused(refusal) => outcome_line(alloc, Outcome::Refused(refusal)),
@@ -200,9 +200,10 @@ fn verdict_line(alloc: Global, verdict: Verdict) -> Result<String, AllocError>
 }
 
 /// What the report says of a call, in a line by itself.
-fn outcome_line(alloc: Global, outcome: Outcome) -> Result<String, AllocError>
-    ensures { IfOk result (λ line. string_bytes line ≡ said_text outcome ++ codes "\n") }
+fn outcome_line(alloc: Global, outcome: Outcome) -> Result<Vec<u8>, AllocError>
+    ensures { IfOk result (λ line. line.items ≡ said_text outcome ++ codes "\n") }
 {
-    let said = said(alloc, &outcome)?;
-    format!(in alloc; "{said}\n")
+    let mut line = said(alloc, &outcome)?;
+    line.push(b'\n')?;
+    Ok(line)
 }

@@ -20,6 +20,8 @@ mod StoreAllLaws
 mod UnheldLaws
 mod KnownLaws
 mod ItemLaws
+mod ReportLaws
+mod SpellingLaws
 mod StatesLaws
 mod StoringLaws
 mod ReadyLaws

@@ -81,7 +81,7 @@ pub use laws::{call_law, report_law, rounds_law, six_law};
 pub use outcome::Outcome;
 pub use prepared::Prepared;
 pub use replay_desk::State;
-pub use report::{report_line, said};
+pub use report::{report_line, report_lines, said};
 pub use service::Service;
 pub use worker::Worker;
 /// Memory ran out.

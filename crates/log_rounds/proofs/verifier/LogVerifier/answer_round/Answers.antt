@@ -14,8 +14,8 @@ judge-requires-clause-follow g c κs within = follows _ _ _ c.requires.some c.re
 pub judge-requires-clause-trusts : goal.judge-requires-clause-trusts
 judge-requires-clause-trusts g c κs within = c.requires.follow.stands.trusts
 
-pub lines_of-requires : goal.lines_of-requires
-lines_of-requires g c =
+pub report_lines-requires : goal.report_lines-requires
+report_lines-requires g c =
     let follow = follows _ _ _ c.requires.some c.requires.few c.requires.follow in
     let size : length c.deref.result.now ≡ length c.close-outcomes.result.items = search rules in
     let closed = ap length c.close-outcomes.ensures.outcomes in
@@ -23,8 +23,8 @@ lines_of-requires g c =
     let fit = numbers_fit _ _ _ follow.some follow.each in
     omega (arith, size, closed, same, fit, c.first_number.ensures)
 
-pub returns-in-Ok-lines_of-clause-judged : goal.returns-in-Ok-lines_of-clause-judged
-returns-in-Ok-lines_of-clause-judged g c =
+pub returns-in-Ok-report_lines-clause-judged : goal.returns-in-Ok-report_lines-clause-judged
+returns-in-Ok-report_lines-clause-judged g c =
     let counts = g.S.Shelf.counts c.judge.new.shelf in
     let judged : OneRound (AnswersBy (basis_of c.args.self.now) (g.S.Shelf.files c.args.shelf.now)) (config_of (basis_of c.args.self.now)) c.args.self.now.service.chains
     (state_of c.args.self.now (g.S.Shelf.counts c.args.shelf.now)) (state_by c.judge.new.self.service counts) c.args.calls.now c.new.result = search rules in

@@ -1,7 +1,7 @@
 -- What was written and the lines of what is left are all lines.
 use Rattle.std.proofs.Common.{◌≡◌, ◌+◌}
-use Rattle.log_rounds.proofs.ReportLaws.{LinesSoFar}
-use Rattle.log_rounds.proofs.report.lines_of.Given as goal
+use Rattle.verify_service.proofs.ReportLaws.{LinesSoFar}
+use Rattle.verify_service.proofs.report.report_lines.Given as goal
 
 abbrev pub invariant-loop-outcome : goal.invariant-loop-outcome
 invariant-loop-outcome l = record {
