@@ -9,12 +9,10 @@ INVITE from inside whose number is in the signing table gets an Identity field t
 module http_async_client the same is tried with it. KAMAILIO_MODULES may name a folder with modules more. Needs kamailio with http_client and jansson; if one is
 missing that is said, and the status is 77.
 """
-import contextlib
 import dataclasses
 import pathlib
 import re
 import shutil
-import signal
 import socket
 import statistics
 import sys
@@ -102,21 +100,9 @@ class Faulty:
                 connection.close()
 
 
-@contextlib.contextmanager
-def stopped(service):
-    """stird hangs meanwhile."""
-    service.process.send_signal(signal.SIGSTOP)
-    state = pathlib.Path(f"/proc/{service.process.pid}/stat")
-    assert wait_until(lambda: state.read_text().rsplit(")", 1)[1].split()[0] == "T"), "stird doesn't stop"
-    try:
-        yield
-    finally:
-        service.process.send_signal(signal.SIGCONT)
-
-
 def cancelled(phones, world, service, call):
     """A caller who hangs up while stird hangs is told so at once, and his call goes nowhere."""
-    with stopped(service):
+    with service.stopped():
         phones.send(world, call, "good", int(time.time()))
         time.sleep(0.1)
         fields = [f"Via: SIP/2.0/UDP {phones.address}:{phones.caller.getsockname()[1]};branch=z9hG4bK{call}", "Max-Forwards: 70",
@@ -151,7 +137,7 @@ def sent(phones, world, calls, pause):
 def hanging(phones, world, service, first):
     """stird hangs: calls go on within the limit, those after the first few at once, and when it is there again they are judged."""
     calls = range(first, first + 60)
-    with stopped(service):
+    with service.stopped():
         sent(phones, world, calls, 0.05)
         phones.other(first + 60)
         within(phones, calls)
@@ -200,7 +186,7 @@ def signed(phones, world, service, first):
     assert service.metric('stir_signed_total') == 1
     for call in (ours, own):
         assert service.outcome(phones.came[call][0].encode()) == "valid", f"the Identity of call {call} isn't good"
-    with stopped(service):
+    with service.stopped():
         calls = range(first + 10, first + 20)
         for call in calls:
             phones.send(world, call, "unsigned", int(time.time()))
