@@ -23,6 +23,9 @@ fn lost(winner: u64) -> Claim {
 /// So long a claim may take on a busy machine; by itself it takes half a second at most.
 const LIMIT: Duration = Duration::from_millis(900);
 
+/// A claim that takes so long was one for which the Redis was asked.
+const ASKED: Duration = Duration::from_millis(250);
+
 #[tokio::test(flavor = "multi_thread", worker_threads = 4)]
 async fn of_calls_at_several_services_with_one_ticket_one_passes() {
     let server = Server::new("several", &[]);
@@ -112,16 +115,27 @@ async fn no_call_is_lost_to_connections_that_were_idle_too_long() {
 async fn a_call_passes_again_soon_after_an_outage_without_a_look() {
     let mut server = Server::new("outage", &[]);
     let (tickets, clock) = redis(&server.address());
-    assert_eq!(call(&tickets, &*clock, 1).await, Claim::Won);
+    well_within(&tickets, 10 * LIMIT).await;
     server.stop();
     for number in 2..50 {
         assert_eq!(call(&tickets, &*clock, number).await, Claim::Unable);
     }
     why(&tickets);
     server.start();
-    let start = Instant::now();
-    while call(&tickets, &*clock, 100).await != Claim::Won {
-        assert!(start.elapsed() < LIMIT);
+    // What it takes to ask it doesn't count: on a busy machine a claim may be too late once more. It
+    // may be kept all the same, so the next one is another.
+    let (start, mut since) = (Instant::now(), Instant::now());
+    for number in 100.. {
+        let begun = Instant::now();
+        match call(&tickets, &*clock, number).await {
+            Claim::Won => break,
+            claim => assert_eq!(claim, Claim::Unable),
+        }
+        if begun.elapsed() > ASKED {
+            since = Instant::now();
+        }
+        let is_soon = since.elapsed() < LIMIT && start.elapsed() < 10 * LIMIT;
+        assert!(is_soon, "{number}: {:?}: {}", start.elapsed(), why(&tickets));
         tokio::time::sleep(Duration::from_millis(10)).await;
     }
     assert_eq!(tickets.health(), Health::Well);

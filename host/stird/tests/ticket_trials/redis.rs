@@ -1,5 +1,6 @@
 //! A Redis that a test starts, and peers that stand between.
 use crate::ticket_trials::{run, Folder};
+use std::io::{Read, Write};
 use std::process::{Child, Command, Stdio};
 use std::time::{Duration, Instant};
 use tokio::io::{AsyncReadExt, AsyncWriteExt};
@@ -81,11 +82,25 @@ fn start(port: u16, folder: &Folder, words: &[String]) -> Child {
         .spawn()
         .unwrap();
     let limit = Instant::now() + Duration::from_secs(10);
-    while std::net::TcpStream::connect(("127.0.0.1", port)).is_err() {
+    while !answers(port) {
         assert!(Instant::now() < limit, "the Redis at {port} doesn't come");
         std::thread::sleep(Duration::from_millis(20));
     }
     child
+}
+
+/// Whether what listens there deals with its connections: it may listen for a while before that.
+/// One that speaks TLS ends this one.
+fn answers(port: u16) -> bool {
+    let ask = |mut stream: std::net::TcpStream| {
+        stream.set_read_timeout(Some(Duration::from_secs(10)))?;
+        stream.write_all(b"PING\r\n")?;
+        stream.read(&mut [0; 64])
+    };
+    match std::net::TcpStream::connect(("127.0.0.1", port)).and_then(ask) {
+        Ok(_) => true,
+        Err(error) => error.kind() == std::io::ErrorKind::ConnectionReset,
+    }
 }
 
 pub fn ask(port: u16, words: &[&str]) -> String {
