@@ -86,6 +86,21 @@ def test_whoever_loses_its_place_before_an_answer_is_told_so(started):
             assert others.open() == 4, "one that is new was closed"
 
 
+@pytest.mark.parametrize("has_body", [False, True])
+def test_whoever_has_a_place_and_asked_at_once_is_answered(started, world, has_body):
+    """Forty requests are there as a whole before the service looks, at four places. Those that find no place are told so. Of the others none is lost."""
+    service = started("--connections", 4, "--idle", 30)
+    call = world.call(0, START, 1)
+    post = b"POST /verify HTTP/1.1\r\nHost: x\r\nConnection: close\r\nX-Moment: %d\r\nContent-Length: %d\r\n\r\n%s" % (START, len(call), call)
+    with service.stopped():
+        crowd = Crowd(service, 40, post if has_body else HEALTH)
+    with crowd:
+        answers = [status_of(read(connection, 10)) for connection in crowd.held]
+    assert answers.count(200) + answers.count(503) == 40, answers
+    # Whoever asks for this may be turned away too.
+    assert answers.count(503) <= service.metric("stir_turned_away_total"), "one that had a place lost it"
+
+
 def is_turned_away(service):
     """Whether one more connection is turned away while there are sixteen on which a request comes."""
     with Crowd(service, 16, b"POST /verify HTTP/1.1\r\n"):

@@ -3,7 +3,7 @@ use crate::answers::Answer;
 use crate::clients::Peer;
 use crate::routes::{Door, Request};
 use crate::server::guard::{Guard, Talk};
-use crate::server::places::{Doing, Place};
+use crate::server::places::{Doing, Place, Seat};
 use crate::server::stream::Stream;
 use crate::server::{Server, MOST_BODY, MOST_HEAD};
 use bytes::{Bytes, BytesMut};
@@ -22,6 +22,10 @@ use tokio::time::sleep;
 
 /// How long a connection without a request stays after the service was told to end.
 const LAST: Duration = Duration::from_millis(250);
+
+/// How often it is looked what has come on a connection that has to go, and how long that takes.
+const LOOKS: usize = 10;
+const LOOK: Duration = Duration::from_millis(1);
 
 type Answered = Pin<Box<dyn Future<Output = Result<Response<Body>, Infallible>> + Send>>;
 
@@ -47,7 +51,7 @@ pub async fn serve(stream: Stream, peer: Peer, place: Place, server: Arc<Server>
         tokio::select! {
             biased;
             done = poll_fn(|context| connection.poll_without_shutdown(context)) => break done,
-            () = place.seat.leave.notified(), if !is_closing => {}
+            () = has_to_go(&place.seat), if !is_closing => {}
             () = ended(&mut ending), if !is_closing => {}
         }
         is_closing = true;
@@ -74,6 +78,19 @@ pub async fn serve(stream: Stream, peer: Peer, place: Place, server: Arc<Server>
     parts.io.end(answer).await;
 }
 
+/// Waits until a connection has to go, and until what has come on it is read: a request that is
+/// there as a whole is answered, also if this thread had no time for it before.
+async fn has_to_go(seat: &Seat) {
+    seat.leave.notified().await;
+    for _ in 0..LOOKS {
+        // In that time the system says what has come.
+        sleep(LOOK).await;
+        if seat.doing() != Doing::Receiving {
+            return;
+        }
+    }
+}
+
 /// Waits for the end of the service, and a moment longer: so a request that is on its way then is
 /// answered. That answer says that it is the last one.
 async fn ended(ending: &mut watch::Receiver<bool>) {
@@ -85,7 +102,7 @@ async fn ended(ending: &mut watch::Receiver<bool>) {
 async fn answer(request: hyper::Request<Body>, peer: Peer, talk: &Talk, server: &Server) -> Answer {
     let is_last = !stays(request.headers(), request.version());
     let answer = answer_of(request, peer, talk, server).await;
-    if is_last || *server.ending.borrow() {
+    if is_last || talk.seat.is_leaving() || *server.ending.borrow() {
         answer.last()
     } else {
         answer

@@ -1,6 +1,6 @@
-//! The places for connections: so many at once, and so many from one address. If all are taken, the
-//! connection goes that is without a request for longest, so that those who say nothing keep nobody
-//! out.
+//! The places for connections: so many at once, and so many from one address. If all are taken, one
+//! of those goes that say nothing or are slow, so that they keep nobody out. One that has just come,
+//! or has just had an answer, goes last of these: its request may be on its way.
 use crate::metrics::Metrics;
 use std::collections::{HashMap, VecDeque};
 use std::net::{IpAddr, Ipv6Addr};
@@ -10,15 +10,17 @@ use std::time::{Duration, Instant};
 use stir_trust::locks::Held;
 use tokio::sync::Notify;
 
-/// A request that comes for so long counts as slow.
+/// A request that comes for so long counts as slow, and a connection that is so long without one as
+/// idle.
 const SLOW: Duration = Duration::from_secs(1);
 
 /// How many connections more than there may be can be on their way out, so that as many as come at
 /// once have a place.
 pub const AT_ONCE: usize = 64;
 
-/// How many connections are looked up at once that may go.
+/// How many connections are looked up at once that may go, and how long that look-up counts.
 const CANDIDATES: usize = 256;
+const KEPT: Duration = Duration::from_millis(100);
 
 /// What a connection does.
 #[derive(Clone, Copy, Debug, PartialEq, Eq, PartialOrd, Ord)]
@@ -63,21 +65,37 @@ impl Seat {
 
     /// What it does.
     pub fn doing(&self) -> Doing {
-        match self.doing.load(SeqCst) & 3 {
-            0 => Doing::Nothing,
-            1 => Doing::Receiving,
-            _ => Doing::Answering,
-        }
-    }
-
-    /// Since which millisecond after the start.
-    fn since(&self) -> u64 {
-        self.doing.load(SeqCst) >> 2
+        what(self.doing.load(SeqCst))
     }
 
     /// Whether it has to go.
     pub fn is_leaving(&self) -> bool {
         self.is_leaving.load(SeqCst)
+    }
+}
+
+/// What a connection does by its seat.
+fn what(doing: u64) -> Doing {
+    match doing & 3 {
+        0 => Doing::Nothing,
+        1 => Doing::Receiving,
+        _ => Doing::Answering,
+    }
+}
+
+/// Since which millisecond after the start.
+fn since(doing: u64) -> u64 {
+    doing >> 2
+}
+
+/// Why it may go so long after the start, if it may.
+fn cause(doing: u64, now: Duration) -> Option<Cause> {
+    let is_long = now.saturating_sub(Duration::from_millis(since(doing))) >= SLOW;
+    match what(doing) {
+        Doing::Nothing if is_long => Some(Cause::Idle),
+        Doing::Nothing => Some(Cause::Quiet),
+        Doing::Receiving => is_long.then_some(Cause::Slow),
+        Doing::Answering => None,
     }
 }
 
@@ -97,14 +115,26 @@ struct Taken {
     each: HashMap<IpAddr, usize>,
     /// How many have to go, and are still there.
     leaving: usize,
-    /// Those that may go, with what each did when they were looked up.
+    /// Those that may go, with what each did when they were looked up, and when that was.
     candidates: VecDeque<(u64, u64)>,
+    looked_up: Duration,
 }
 
 /// Who has a place.
 struct Taker {
     address: Option<IpAddr>,
     seat: Arc<Seat>,
+}
+
+/// Why a connection may go. Those of the first kind go first.
+#[derive(Clone, Copy, Debug, PartialEq, Eq, PartialOrd, Ord)]
+enum Cause {
+    /// It is without a request for long.
+    Idle,
+    /// Its request comes for long.
+    Slow,
+    /// It has no request yet, or no further one.
+    Quiet,
 }
 
 /// Why there is no place.
@@ -186,17 +216,21 @@ impl Places {
         self.free_first(taken, &mut candidates)
     }
 
-    /// Has the connection go that is without a request for longest, or else the one whose request
-    /// comes for longest. Whether there is one.
+    /// Has the connection go that is without a request for longest, if it is idle; or else the one
+    /// whose request comes for longest, if it is slow; or else the one that is without a request
+    /// for longest. Whether there is one.
     pub fn free(&self) -> bool {
         self.free_one(&mut self.held.lock().held())
     }
 
     fn free_one(&self, taken: &mut Taken) -> bool {
         let mut candidates = std::mem::take(&mut taken.candidates);
-        let mut is_found = self.free_first(taken, &mut candidates);
+        let now = self.start.elapsed();
+        let is_recent = now.saturating_sub(taken.looked_up) < KEPT;
+        let mut is_found = is_recent && self.free_first(taken, &mut candidates);
         if !is_found {
             candidates = self.candidates(taken, None);
+            taken.looked_up = now;
             is_found = self.free_first(taken, &mut candidates);
         }
         taken.candidates = candidates;
@@ -222,17 +256,15 @@ impl Places {
 
     /// Those that may go, the first one first: of this address, or of all.
     fn candidates(&self, taken: &Taken, of: Option<IpAddr>) -> VecDeque<(u64, u64)> {
-        let slow = self.start.elapsed().saturating_sub(SLOW).as_millis() as u64;
+        let now = self.start.elapsed();
         let mut found: Vec<_> = (taken.seats.iter())
             .filter(|(_, taker)| of.is_none() || taker.address == of)
             .map(|(number, taker)| (number, &taker.seat))
             .filter(|(_, seat)| !seat.is_leaving())
-            .filter(|(_, seat)| match seat.doing() {
-                Doing::Nothing => true,
-                Doing::Receiving => seat.since() <= slow,
-                Doing::Answering => false,
+            .filter_map(|(number, seat)| {
+                let doing = seat.doing.load(SeqCst);
+                Some((cause(doing, now)?, since(doing), *number, doing))
             })
-            .map(|(number, seat)| (seat.doing(), seat.since(), *number, seat.doing.load(SeqCst)))
             .collect();
         found.sort_unstable();
         found.into_iter().take(CANDIDATES).map(|(.., number, doing)| (number, doing)).collect()
@@ -323,6 +355,25 @@ mod tests {
         third.seat.does(Doing::Receiving);
         assert_eq!((slow.seat.is_leaving(), new.seat.is_leaving()), (true, false));
         assert_eq!(places.take(None).err(), Some(Full::All));
+    }
+
+    #[test]
+    fn one_whose_request_may_be_on_its_way_goes_last() {
+        let places = places(4, 4);
+        let held: Vec<Place> = (0..3).map(|_| places.take(None).expect("one")).collect();
+        held[0].seat.does(Doing::Receiving);
+        held[2].seat.does(Doing::Answering);
+        std::thread::sleep(SLOW + Duration::from_millis(20));
+        // It has had its answer just now.
+        held[2].seat.does(Doing::Nothing);
+        let new = places.take(None).expect("one is free");
+        let all = [&held[0], &held[1], &held[2], &new];
+        // The idle one goes first, then the slow one, then those that are quiet for a moment.
+        for (more, gone) in [1, 0, 2, 3].into_iter().enumerate() {
+            assert!(!all.map(|place| place.seat.is_leaving())[gone], "{more}");
+            let _other = places.take(None).map(std::mem::forget);
+            assert!(all.map(|place| place.seat.is_leaving())[gone], "{more}");
+        }
     }
 
     #[test]
