@@ -134,13 +134,15 @@ def test_a_crowd_that_sends_a_byte_now_and_then_shuts_nobody_out(started):
     for worker in workers:
         worker.start()
     try:
+        # Before its first second is over none of them is slow.
         time.sleep(1)
+        assert wait_until(lambda: asks(service) == 200), "the crowd shuts all others out"
         answers = [asks(service) for _ in range(30)]
     finally:
         stop.set()
         for worker in workers:
             worker.join()
-    assert answers.count(200) >= 29, answers
+    assert answers == [200] * 30
 
 
 def test_more_connections_than_there_may_be_arent_held(started, world):
