@@ -122,8 +122,8 @@ async fn a_call_passes_again_soon_after_an_outage_without_a_look() {
     }
     why(&tickets);
     server.start();
-    // What it takes to ask it doesn't count: on a busy machine a claim may be too late once more. It
-    // may be kept all the same, so the next one is another.
+    // What it takes to ask it doesn't count: on a busy machine a claim may be too late once more.
+    // It may be kept all the same, so the next one is another.
     let (start, mut since) = (Instant::now(), Instant::now());
     for number in 100.. {
         let begun = Instant::now();

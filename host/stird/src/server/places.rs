@@ -1,6 +1,6 @@
 //! The places for connections: so many at once, and so many from one address. If all are taken, one
-//! of those goes that say nothing or are slow, so that they keep nobody out. One that has just come,
-//! or has just had an answer, goes last of these: its request may be on its way.
+//! of those goes that say nothing or are slow, so that they keep nobody out. One that has just
+//! come, or has just had an answer, goes last of these: its request may be on its way.
 use crate::metrics::Metrics;
 use std::collections::{HashMap, VecDeque};
 use std::net::{IpAddr, Ipv6Addr};
