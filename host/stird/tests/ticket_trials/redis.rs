@@ -2,6 +2,7 @@
 use crate::ticket_trials::{run, Folder};
 use std::io::{Read, Write};
 use std::process::{Child, Command, Stdio};
+use std::sync::atomic::{AtomicU16, Ordering::SeqCst};
 use std::time::{Duration, Instant};
 use tokio::io::{AsyncReadExt, AsyncWriteExt};
 use tokio::net::{TcpListener, TcpStream};
@@ -14,9 +15,16 @@ pub struct Server {
     words: Vec<String>,
 }
 
-/// A port that nobody has now.
+/// A port that nobody has, below those that the system gives to others (32,768 on).
 pub fn free_port() -> u16 {
-    std::net::TcpListener::bind("127.0.0.1:0").unwrap().local_addr().unwrap().port()
+    static NEXT: AtomicU16 = AtomicU16::new(0);
+    let first = 20_000 + (std::process::id() % 120) as u16 * 100;
+    loop {
+        let port = first + NEXT.fetch_add(1, SeqCst) % 100;
+        if std::net::TcpListener::bind(("127.0.0.1", port)).is_ok() {
+            return port;
+        }
+    }
 }
 
 impl Server {
